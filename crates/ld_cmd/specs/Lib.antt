@@ -1,0 +1,6 @@
+pub mod Faces
+pub mod Chain
+pub mod Ending
+pub mod Output
+pub mod Shown
+pub mod Words

@@ -1,0 +1,63 @@
+-- What a run writes and how it ends (this project's own).
+use Rattle.std.specs.Prelude.{◌≡◌, ℕ, ◌<◌, nat_lt, List, [], ◌∷◌, ◌++◌, length, map, take, Option, Some, None, Result, Ok, Err, codes, if◌then◌else◌, ◌==◌, ◌||◌, Bool}
+use Rattle.std.specs.List.{list_any}
+use Rattle.ld_io.specs.Shelf.{Files}
+use Rattle.ld_io.specs.declared.shelf.Place.TheVariants.{Work}
+use Rattle.ld_names.specs.Normal.{normal_of}
+use Rattle.ld_names.specs.declared.name.NameError.{NameError}
+use Rattle.ld_line.specs.Cut.{lines_of}
+use Rattle.ld_line.specs.Reading.{line_of}
+use Rattle.ld_cmd.specs.declared.status.Status.{Status}
+use Rattle.ld_cmd.specs.declared.status.Status.TheVariants.{Done, Faulted, Usage, Input, ReadFault, WriteFault, Memory, Limit}
+use Rattle.ld_cmd.specs.Faces.{all_from, answer_of}
+use Rattle.ld_cmd.specs.Words.{command_of, usage_line}
+
+pub record Output : Type 0 where
+  pub bytes : List ℕ
+  pub status : Status
+
+-- the most bytes that a file may have
+abbrev pub file_bytes : ℕ
+file_bytes = 33554432
+
+-- `/` or `\`
+abbrev pub is_slash : ℕ → Bool
+is_slash byte = byte == 47 || byte == 92
+
+-- what stands after the last slash, or all where there is none
+abbrev pub after_slash : List ℕ → List ℕ
+after_slash [] = []
+after_slash (byte ∷ bytes) = if list_any is_slash bytes then after_slash bytes else if is_slash byte then bytes else byte ∷ bytes
+
+-- a name, or the one for a word without
+abbrev pub named : Result (List ℕ) NameError → List ℕ
+named (Ok name) = name
+named (Err e) = codes "model.ldr"
+
+-- the main model's own name, by the word that names its file
+abbrev pub own_name : List ℕ → List ℕ
+own_name word = named (normal_of (after_slash word))
+
+abbrev pub answered : Result (List ℕ) (List ℕ) → Output
+answered (Ok text) = record { bytes = text; status = Done }
+answered (Err fault) = record { bytes = fault; status = Faulted }
+
+-- the faces of a text
+abbrev pub faces_of : List ℕ → List ℕ → Output
+faces_of word bytes = answered (answer_of (own_name word) (all_from 1 (map line_of (lines_of bytes))))
+
+-- the faces of the file that a word names
+abbrev pub faces_output : List ℕ → Option (List ℕ) → Output
+faces_output word None = record { bytes = codes "absent " ++ word ++ codes "\n"; status = Input }
+faces_output word (Some bytes) = if nat_lt file_bytes (length bytes) then record { bytes = codes "toobig " ++ word ++ codes "\n"; status = Limit } else faces_of word bytes
+
+abbrev pub usage : Output
+usage = record { bytes = usage_line; status = Usage }
+
+abbrev pub commanded : Option (List ℕ) → Files → Output
+commanded None files = usage
+commanded (Some word) files = faces_output word (files Work word)
+
+-- what words give over the files of a shelf
+unfoldable pub output : List (List ℕ) → Files → Output
+output words files = commanded (command_of words) files

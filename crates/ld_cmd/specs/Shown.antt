@@ -1,0 +1,22 @@
+-- What the code's values say.
+use Rattle.std.specs.Prelude.{◌≡◌, ℕ, ◌<◌, ◌≤◌, List, length, Option, Some, None, IsSomeAnd, Result, Ok, Err}
+use Rattle.ld_cmd.specs.declared.faces.Faces.{Faces}
+use Rattle.ld_cmd.specs.declared.faces.Faces.TheVariants.{Shown, Fault}
+use Rattle.ld_cmd.specs.declared.make.File.{File}
+use Rattle.ld_cmd.specs.declared.make.File.TheVariants.{Bytes, Absent, TooBig}
+use Rattle.ld_cmd.specs.declared.made.Made.{Made}
+use Rattle.ld_cmd.specs.Output.{Output, file_bytes}
+
+-- printed faces, or a printed fault
+abbrev pub shown : Faces → Result (List ℕ) (List ℕ)
+shown (Shown text) = Ok text.items
+shown (Fault text) = Err text.items
+
+abbrev pub made : Made → Output
+made m = record { bytes = m.text.items; status = m.status }
+
+-- what a shelf has at a path
+abbrev pub IsFile : Option (List ℕ) → File → Type 0
+IsFile found (Bytes bytes) = (found ≡ Some bytes.items) × (length bytes.items ≤ file_bytes)
+IsFile found Absent = found ≡ None
+IsFile found TooBig = IsSomeAnd found (λ all. file_bytes < length all)

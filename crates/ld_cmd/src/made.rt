@@ -1,0 +1,42 @@
+ghost use Rattle.std.specs.Prelude.{◌≡◌, IsTrue};
+ghost use Rattle.ld_cmd.specs.Ending.{is_whole};
+
+use crate::status::Status;
+use std::alloc::{AllocError, AllocFailed};
+
+// What is to be written, and the status that goes with it.
+#[derive(Debug, Drop)]
+pub(crate) struct Made {
+    pub text: Vec<u8>,
+    pub status: Status,
+    ghost whole: { IsTrue (is_whole status) },
+}
+
+// Why nothing is written.
+#[derive(Clone, Copy, Debug, PartialEq, Eq)]
+pub(crate) enum Stop {
+    ReadFault,
+    Memory,
+}
+
+impl<T: Drop> From<AllocFailed<T>> for Stop {
+    ghost use Rattle.std.specs.Prelude.{◌≡◌};
+    ghost use Rattle.ld_cmd.specs.declared.made.Stop.TheVariants.{Memory};
+
+    ghost from_gives = { λ _ e. e ≡ Memory };
+
+    fn from(_error: AllocFailed<T>) -> Stop {
+        Stop::Memory
+    }
+}
+
+impl From<AllocError> for Stop {
+    ghost use Rattle.std.specs.Prelude.{◌≡◌};
+    ghost use Rattle.ld_cmd.specs.declared.made.Stop.TheVariants.{Memory};
+
+    ghost from_gives = { λ _ e. e ≡ Memory };
+
+    fn from(_error: AllocError) -> Stop {
+        Stop::Memory
+    }
+}

@@ -1,0 +1,18 @@
+//! The command `ldraw`: answers about LDraw models, read from files and written to standard output.
+#![tactic(auto)]
+
+mod faces;
+mod made;
+mod make;
+mod os;
+mod run;
+mod status;
+mod words;
+
+pub use run::run;
+pub use status::Status;
+use std::process::ExitCode;
+
+fn main(rt: HostRuntime) -> ExitCode {
+    ExitCode::from(os::answer(rt) as u8)
+}

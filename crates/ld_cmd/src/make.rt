@@ -1,0 +1,161 @@
+ghost use Rattle.std.specs.Prelude.{◌≡◌, ◌≢◌, ◌≤◌, Err, None, IsSome, MatchResult, ℕ, List, Option, Result, ◌++◌, IfOk, IfSome, IsTrue, codes, map, string_bytes};
+ghost use Rattle.ld_io.specs.Faults.{HasRisen};
+ghost use Rattle.ld_names.specs.Normal.{GivesName};
+ghost use Rattle.ld_names.specs.declared.name.NameError.{NameError};
+ghost use Rattle.ld_cmd.specs.Ending.{is_whole};
+ghost use Rattle.ld_cmd.specs.Output.{after_slash, faces_of, faces_output, named, output, own_name, usage};
+ghost use Rattle.ld_cmd.specs.Shown.{IsFile, made};
+ghost use Rattle.ld_cmd.specs.Words.{command_of};
+
+use crate::faces::{Faces, print_faces};
+use crate::made::{Made, Stop};
+use crate::status::Status;
+use crate::words::{USAGE, command};
+use ld_io::{FetchError, Fetched, Place, Shelf};
+use ld_line::lines_of;
+use ld_names::{Name, NameError, normal};
+use std::alloc::{AllocError, Global};
+
+// The most bytes that a file may have.
+const FILE_BYTES: u64 = 33_554_432;
+
+// What is at a path.
+#[derive(Debug, Drop)]
+enum File {
+    Bytes(Vec<u8>),
+    Absent,
+    TooBig,
+}
+
+// What the words give over the shelf.
+#[tactic(auto, unfolding(crate::specs::Output::output))]
+pub(crate) fn make_output<S: Shelf>(
+    alloc: Global,
+    words: &[String],
+    shelf: &mut S,
+) -> Result<Made, Stop>
+    ensures told { IfSome (S.files shelf.old) (λ files. IfOk result (λ m. made m ≡ output (map string_bytes words.now) files)) }
+    ensures outside { command_of (map string_bytes words.now) ≡ None → MatchResult result (λ m. made m ≡ usage) (λ e. e ≡ Stop.Memory) }
+    ensures inside { IsSome (command_of (map string_bytes words.now)) → IfOk result (λ m. m.status ≢ Status.Usage) }
+    ensures cause { result ≡ Err Stop.ReadFault → HasRisen (S.faults shelf.old) (S.faults shelf.new) }
+    ensures same { S.files shelf.new ≡ S.files shelf.old }
+    ensures never_falls { S.faults shelf.old ≤ S.faults shelf.new }
+{
+    match command(words) {
+        None => Ok(Made {
+            text: Vec::from_slice(alloc, USAGE)?,
+            status: Status::Usage,
+        }),
+        Some(word) => {
+            let file = read_file(alloc, word, shelf)?;
+            make_answer(alloc, word, file)
+        }
+    }
+}
+
+fn read_file<S: Shelf>(alloc: Global, word: &[u8], shelf: &mut S) -> Result<File, Stop>
+    ensures told { IfSome (S.files shelf.old) (λ files. IfOk result (λ file. IsFile (files Place.Work word.now) file)) }
+    ensures cause { result ≡ Err Stop.ReadFault → HasRisen (S.faults shelf.old) (S.faults shelf.new) }
+    ensures same { S.files shelf.new ≡ S.files shelf.old }
+    ensures never_falls { S.faults shelf.old ≤ S.faults shelf.new }
+{
+    let mut bytes = Vec::new(alloc);
+    match shelf.fetch(Place::Work, word, FILE_BYTES, &mut bytes) {
+        Ok(Fetched::Found) => Ok(File::Bytes(bytes)),
+        Ok(Fetched::Absent) => Ok(File::Absent),
+        Err(FetchError::TooBig) => Ok(File::TooBig),
+        Err(FetchError::Failed) => Err(Stop::ReadFault),
+        Err(FetchError::Memory) => Err(Stop::Memory),
+    }
+}
+
+fn make_answer(alloc: Global, word: &[u8], file: File) -> Result<Made, Stop>
+    ensures made { (found : Option (List ℕ)) → IsFile found file → IfOk result (λ m. made m ≡ faces_output word.now found) }
+    ensures no_usage { IfOk result (λ m. m.status ≢ Status.Usage) }
+    ensures no_fault { result ≢ Err Stop.ReadFault }
+{
+    match file {
+        File::Bytes(bytes) => make_faces(alloc, word, bytes.as_slice()),
+        File::Absent => about_file(alloc, b"absent ", word, Status::Input),
+        File::TooBig => about_file(alloc, b"toobig ", word, Status::Limit),
+    }
+}
+
+fn make_faces(alloc: Global, word: &[u8], bytes: &[u8]) -> Result<Made, Stop>
+    ensures made { IfOk result (λ m. made m ≡ faces_of word.now bytes.now) }
+    ensures no_usage { IfOk result (λ m. m.status ≢ Status.Usage) }
+    ensures no_fault { result ≢ Err Stop.ReadFault }
+{
+    let own = own_name(alloc, word)?;
+    let lines = lines_of(alloc, bytes)?;
+    match print_faces(alloc, own.bytes(), lines.as_slice())? {
+        Faces::Shown(text) => Ok(Made {
+            text,
+            status: Status::Done,
+        }),
+        Faces::Fault(text) => Ok(Made {
+            text,
+            status: Status::Faulted,
+        }),
+    }
+}
+
+// A line about the file that a word names.
+fn about_file(alloc: Global, what: &[u8], word: &[u8], status: Status) -> Result<Made, Stop>
+    requires { IsTrue (is_whole status) }
+    ensures made { IfOk result (λ m. made m ≡ record { bytes = what.now ++ word.now ++ codes "\n"; status = status }) }
+    ensures status { IfOk result (λ m. m.status ≡ status) }
+    ensures no_fault { result ≢ Err Stop.ReadFault }
+{
+    let mut text = Vec::with_capacity(alloc, word.len())?;
+    text.extend_from_slice(what)?;
+    text.extend_from_slice(word)?;
+    text.push(b'\n')?;
+    Ok(Made { text, status })
+}
+
+// The main model's own name, by the word that names its file.
+fn own_name(alloc: Global, word: &[u8]) -> Result<Name, AllocError>
+    ensures { IfOk result (λ name. name ≡ own_name word.now) }
+{
+    match normal(alloc, after_slash(word)) {
+        Ok(name) => Ok(name),
+        Err(error) => default_name(alloc, error),
+    }
+}
+
+// The name of a model whose file's name has no normal form.
+fn default_name(alloc: Global, error: NameError) -> Result<Name, AllocError>
+    ensures { (wanted : Result (List ℕ) NameError) → GivesName (Err error) wanted → IfOk result (λ name. name ≡ named wanted) }
+{
+    match error {
+        NameError::Memory => Err(AllocError),
+        NameError::Empty | NameError::TooLong | NameError::NotRelative | NameError::Control => {
+            model_name(alloc)
+        }
+    }
+}
+
+#[tactic(auto, unfolding(ld_names::specs::Normal::normal_of))]
+fn model_name(alloc: Global) -> Result<Name, AllocError>
+    ensures { IfOk result (λ name. name ≡ codes "model.ldr") }
+{
+    match normal(alloc, b"model.ldr") {
+        Ok(name) => Ok(name),
+        Err(_) => Err(AllocError),
+    }
+}
+
+fn after_slash(word: &[u8]) -> &[u8]
+    ensures { result.now ≡ after_slash word.now }
+{
+    let mut last = word;
+    let mut rest = word;
+    while let Some((first, more)) = rest.split_first() {
+        if *first == b'/' || *first == b'\\' {
+            last = more;
+        }
+        rest = more;
+    }
+    last
+}

@@ -1,0 +1,11 @@
+//! Names of LDraw files in their normal form, the folders in which they are looked for, and the
+//! list type that the crates above share.
+#![tactic(auto)]
+
+mod file;
+mod list;
+mod name;
+
+pub use file::{FileId, Folder, Folders, TextId, order};
+pub use list::{Bytes, Lines, List};
+pub use name::{Name, NameError, blank, normal, trimmed_start};

@@ -1,0 +1,13 @@
+//! The numbers of LDraw files: numerals, read and printed as whole millionths.
+#![tactic(auto)]
+
+mod dec;
+mod digits;
+mod point;
+mod print;
+mod read;
+
+pub use dec::{Dec, NumError};
+pub use point::{Placement, Point};
+pub use print::print_dec;
+pub use read::read_dec;
