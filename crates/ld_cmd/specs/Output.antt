@@ -1,12 +1,11 @@
 -- What a run writes and how it ends (this project's own).
-use Rattle.std.specs.Prelude.{◌≡◌, ℕ, ◌<◌, nat_lt, List, [], ◌∷◌, ◌++◌, length, map, take, Option, Some, None, Result, Ok, Err, codes, if◌then◌else◌, ◌==◌, ◌||◌, Bool}
+use Rattle.std.specs.Prelude.{◌≡◌, ℕ, ◌<◌, nat_lt, List, [], ◌∷◌, ◌++◌, length, Option, Some, None, Result, Ok, Err, codes, if◌then◌else◌, ◌==◌, ◌||◌, Bool}
 use Rattle.std.specs.List.{list_any}
 use Rattle.ld_io.specs.Shelf.{Files}
 use Rattle.ld_io.specs.declared.shelf.Place.TheVariants.{Work}
 use Rattle.ld_names.specs.Normal.{normal_of}
 use Rattle.ld_names.specs.declared.name.NameError.{NameError}
 use Rattle.ld_line.specs.Cut.{lines_of}
-use Rattle.ld_line.specs.Reading.{line_of}
 use Rattle.ld_cmd.specs.declared.status.Status.{Status}
 use Rattle.ld_cmd.specs.declared.status.Status.TheVariants.{Done, Faulted, Usage, Input, ReadFault, WriteFault, Memory, Limit}
 use Rattle.ld_cmd.specs.Faces.{all_from, answer_of}
@@ -44,7 +43,7 @@ answered (Err fault) = record { bytes = fault; status = Faulted }
 
 -- the faces of a text
 abbrev pub faces_of : List ℕ → List ℕ → Output
-faces_of word bytes = answered (answer_of (own_name word) (all_from 1 (map line_of (lines_of bytes))))
+faces_of word bytes = answered (answer_of (own_name word) (all_from 1 (lines_of bytes)))
 
 -- the faces of the file that a word names
 abbrev pub faces_output : List ℕ → Option (List ℕ) → Output

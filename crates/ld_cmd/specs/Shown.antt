@@ -1,7 +1,10 @@
 -- What the code's values say.
-use Rattle.std.specs.Prelude.{◌≡◌, ℕ, ◌<◌, ◌≤◌, List, length, Option, Some, None, IsSomeAnd, Result, Ok, Err}
+use Rattle.std.specs.Prelude.{◌≡◌, ℕ, ◌<◌, ◌≤◌, List, [], ◌∷◌, length, Option, Some, None, IsSomeAnd, Result, Ok, Err}
 use Rattle.ld_cmd.specs.declared.faces.Faces.{Faces}
 use Rattle.ld_cmd.specs.declared.faces.Faces.TheVariants.{Shown, Fault}
+use Rattle.ld_cmd.specs.declared.faces.Outcome.{Outcome as Found}
+use Rattle.ld_cmd.specs.declared.faces.Outcome.TheVariants as found
+use Rattle.ld_cmd.specs.Faces as face
 use Rattle.ld_cmd.specs.declared.make.File.{File}
 use Rattle.ld_cmd.specs.declared.make.File.TheVariants.{Bytes, Absent, TooBig}
 use Rattle.ld_cmd.specs.declared.made.Made.{Made}
@@ -20,3 +23,9 @@ abbrev pub IsFile : Option (List ℕ) → File → Type 0
 IsFile found (Bytes bytes) = (found ≡ Some bytes.items) × (length bytes.items ≤ file_bytes)
 IsFile found Absent = found ≡ None
 IsFile found TooBig = IsSomeAnd found (λ all. file_bytes < length all)
+
+-- what a line with this number gives
+abbrev pub outcomes_shown : ℕ → Found → List face.Outcome
+outcomes_shown number found.Nothing = []
+outcomes_shown number (found.Entry kind colour points) = face.Entry kind colour points number ∷ []
+outcomes_shown number (found.Fault what) = face.Fault what number ∷ []

@@ -1,14 +1,14 @@
-ghost use Rattle.std.specs.Prelude.{◌≡◌, ℕ, List, Result, if◌then◌else◌, ◌++◌, ◌^◌, ◌<◌, ◌+◌, OnOk, OnErr, IfOk, MatchResult, Ok, Err, length, map, decimal, take, codes};
-ghost use Rattle.ld_cmd.specs.Shown.{shown};
-ghost use Rattle.ld_cmd.specs.Chain.{line_onto, onto};
-ghost use Rattle.ld_line.specs.Kind.{points_in};
-ghost use Rattle.ld_line.specs.Reading.{line_of};
-ghost use Rattle.ld_cmd.specs.Faces.{all_from, answer_of, entry_text, fault_text, kind_text, point_text, points_text, source_text};
+ghost use Rattle.std.specs.Prelude.{◌≡◌, ℕ, List, Option, Result, ◌++◌, IfOk};
+ghost use Rattle.ld_cmd.specs.Chain.{onto, outcomes_onto, stopped_or};
+ghost use Rattle.ld_line.specs.Block.{block_line_of};
+ghost use Rattle.ld_cmd.specs.Faces.{all_from, answer_of, is_direct, outcomes_at, outcomes_of};
+ghost use Rattle.ld_cmd.specs.Shown.{outcomes_shown, shown};
 
-use itoa::Buffer;
-use ld_line::{Kind, Line, read_line};
+use crate::entry::print_entry;
+use crate::fault::{What, print_fault};
+use ld_line::{BlockLine, Kind, Line, block_line, read_line};
 use ld_names::Bytes;
-use ld_num::{Point, print_dec};
+use ld_num::Point;
 use std::alloc::{AllocError, Global};
 
 // The faces of a text, or its fault, as printed.
@@ -18,14 +18,26 @@ pub(crate) enum Faces {
     Fault(Vec<u8>),
 }
 
+// What a line gives.
+#[derive(Clone, Copy)]
+enum Outcome {
+    Nothing,
+    Entry {
+        kind: Kind,
+        colour: u32,
+        points: [Point; 4],
+    },
+    Fault(What),
+}
+
 pub(crate) fn print_faces(alloc: Global, own: &[u8], lines: &[Bytes]) -> Result<Faces, AllocError>
-    ensures { IfOk result (λ faces. shown faces ≡ answer_of own.now (all_from 1 (map line_of lines.now))) }
+    ensures { IfOk result (λ faces. shown faces ≡ answer_of own.now (all_from 1 lines.now)) }
 {
     let mut text = Vec::new(alloc);
     for (index, line) in lines.iter().enumerate() {
-        if !print_line(alloc, own, line.as_slice(), index + 1, &mut text)? {
-            let fault = print_fault(alloc, own, index + 1)?;
-            return Ok(fault);
+        if let Some(what) = print_line(alloc, own, line.as_slice(), index + 1, &mut text)? {
+            let fault = print_fault(alloc, own, what, index + 1)?;
+            return Ok(Faces::Fault(fault));
         }
     }
     Ok(Faces::Shown(text))
@@ -38,91 +50,80 @@ fn print_line(
     line: &[u8],
     number: usize,
     into: &mut Vec<u8>,
-) -> Result<bool, AllocError>
-    ensures { IfOk result (λ printed. (more : Result (List ℕ) (List ℕ)) →
-        onto into.old.items (line_onto own.now number (line_of line.now) more)
-        ≡ (if printed then onto into.new.items more else Err (fault_text own.now number))) }
+) -> Result<Option<What>, AllocError>
+    ensures { IfOk result (λ fault. (more : Result (List ℕ) (List ℕ)) →
+        onto into.old.items (outcomes_onto own.now (outcomes_at number line.now) more)
+        ≡ stopped_or own.now number fault (onto into.new.items more)) }
 {
-    match read_line(alloc, line)? {
-        Line::Blank | Line::Comment => Ok(true),
-        Line::Draw {
+    match read_outcome(alloc, line)? {
+        Outcome::Nothing => Ok(None),
+        Outcome::Fault(what) => Ok(Some(what)),
+        Outcome::Entry {
             kind,
             colour,
             points,
         } => {
             print_entry(own, kind, colour, &points, number, into)?;
-            Ok(true)
+            Ok(None)
         }
-        Line::Other => Ok(false),
     }
 }
 
-fn print_fault(alloc: Global, own: &[u8], number: usize) -> Result<Faces, AllocError>
-    ensures { IfOk result (λ faces. shown faces ≡ Err (fault_text own.now number)) }
+fn read_outcome(alloc: Global, line: &[u8]) -> Result<Outcome, AllocError>
+    ensures { IfOk result (λ outcome. (number : ℕ) → outcomes_at number line.now ≡ outcomes_shown number outcome) }
 {
-    let mut text = Vec::from_slice(alloc, b"fault unsupported ")?;
-    print_source(own, number, &mut text)?;
-    text.push(b'\n')?;
-    Ok(Faces::Fault(text))
+    let read = read_line(alloc, line)?;
+    Ok(seen(read, line))
 }
 
-fn print_entry(
-    own: &[u8],
-    kind: Kind,
-    colour: u32,
-    points: &[Point; 4],
-    number: usize,
-    into: &mut Vec<u8>,
-) -> Result<(), AllocError>
-    ensures { OnOk result (into.new.items ≡ into.old.items ++ entry_text own.now kind colour points.now number) }
+// What a line gives, by what it says and by its bytes.
+fn seen(read: Line, line: &[u8]) -> Outcome
+    ensures { (number : ℕ) → outcomes_shown number result ≡ outcomes_of number read (block_line_of line.now) }
 {
-    into.extend_from_slice(kind_word(kind))?;
-    into.push(b' ')?;
-    into.extend_from_slice(Buffer::new().format(colour).as_bytes())?;
-    into.extend_from_slice(b" - nocert clip ccw")?;
-    print_points(&points[..kind.points()], into)?;
-    into.push(b' ')?;
-    print_source(own, number, into)?;
-    into.push(b'\n')?;
-    Ok(())
-}
-
-fn print_points(points: &[Point], into: &mut Vec<u8>) -> Result<(), AllocError>
-    ensures { OnOk result (into.new.items ≡ into.old.items ++ points_text points.now) }
-{
-    for point in points {
-        into.push(b' ')?;
-        print_point(*point, into)?;
+    match read {
+        Line::Draw {
+            kind,
+            colour,
+            points,
+        } => drawn(kind, colour, points),
+        Line::Ref { name, .. } => {
+            drop(name);
+            Outcome::Fault(What::Unsupported)
+        }
+        Line::Bfc(_) => Outcome::Fault(What::Unsupported),
+        Line::Malformed => Outcome::Fault(What::Malformed),
+        Line::OutOfRange => Outcome::Fault(What::Range),
+        Line::Comment => commented(line),
+        Line::Blank | Line::Org(_) | Line::Step | Line::Rot(_) => Outcome::Nothing,
     }
-    Ok(())
 }
 
-fn print_point(point: Point, into: &mut Vec<u8>) -> Result<(), AllocError>
-    ensures { OnOk result (into.new.items ≡ into.old.items ++ point_text point) }
+fn drawn(kind: Kind, colour: u32, points: [Point; 4]) -> Outcome
+    ensures { (number : ℕ) → outcomes_shown number result ≡ outcomes_of number (Line.Draw kind colour points) BlockLine.Other }
 {
-    print_dec(point.x, into)?;
-    into.push(b',')?;
-    print_dec(point.y, into)?;
-    into.push(b',')?;
-    print_dec(point.z, into)
+    if is_direct(colour) {
+        return Outcome::Fault(What::Unsupported);
+    }
+    Outcome::Entry {
+        kind,
+        colour,
+        points,
+    }
 }
 
-fn print_source(own: &[u8], number: usize, into: &mut Vec<u8>) -> Result<(), AllocError>
-    ensures { OnOk result (into.new.items ≡ into.old.items ++ source_text own.now number) }
+fn is_direct(colour: u32) -> bool
+    ensures { result ≡ is_direct colour }
 {
-    into.extend_from_slice(b"model/")?;
-    into.extend_from_slice(own)?;
-    into.push(b':')?;
-    into.extend_from_slice(Buffer::new().format(number).as_bytes())
+    0x2000000 <= colour && colour <= 0x2FFFFFF
 }
 
-fn kind_word(kind: Kind) -> &'static [u8]
-    ensures { result.now ≡ kind_text kind }
+fn commented(line: &[u8]) -> Outcome
+    ensures { (number : ℕ) → outcomes_shown number result ≡ outcomes_of number Line.Comment (block_line_of line.now) }
 {
-    match kind {
-        Kind::Line2 => b"line",
-        Kind::Tri => b"tri",
-        Kind::Quad => b"quad",
-        Kind::Opt => b"opt",
+    match block_line(line) {
+        BlockLine::Other => Outcome::Nothing,
+        BlockLine::File | BlockLine::NoFile | BlockLine::Data => {
+            Outcome::Fault(What::Unsupported)
+        }
     }
 }

@@ -1,7 +1,9 @@
 //! The command `ldraw`: answers about LDraw models, read from files and written to standard output.
 #![tactic(auto)]
 
+mod entry;
 mod faces;
+mod fault;
 mod made;
 mod make;
 mod os;

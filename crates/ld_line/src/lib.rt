@@ -1,13 +1,17 @@
 //! Lines of LDraw texts: how bytes are cut into lines, and what each line says.
 #![tactic(auto)]
 
+mod block;
 mod colour;
 mod cut;
 mod field;
 mod line;
+mod meta;
+mod number;
 mod read;
 
+pub use block::block_line;
 pub use colour::read_colour;
 pub use cut::lines_of;
-pub use line::{Kind, Line, Winding};
+pub use line::{Angles, BfcWord, BlockLine, Kind, Line, RotWord, Winding};
 pub use read::read_line;

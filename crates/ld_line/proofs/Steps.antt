@@ -1,5 +1,5 @@
 -- Reading the numbers of a line one by one.
-use Rattle.std.proofs.Common.{◌≡◌, ◌≤◌, ◌<◌, ◌+◌, ◌-◌, ◌*◌, ℕ, ℤ, pos, suc, Bool, true, false, ◌&&◌, cond, List, [], ◌∷◌, ◌++◌, length, take, get_or, Option, Some, None, Result, Ok, Err, refl, ap, sym, ◌∙◌, append_assoc, arith, ⊎_elim}
+use Rattle.std.proofs.Common.{◌≡◌, ◌≤◌, ◌<◌, ◌+◌, ◌-◌, ◌*◌, ℕ, ℤ, pos, suc, Bool, true, false, ◌&&◌, cond, List, [], ◌∷◌, ◌++◌, length, take, drop, get_or, Option, Some, None, Result, Ok, Err, refl, ap, sym, ◌∙◌, append_assoc, drop-drop, arith, ⊎_elim}
 use Rattle.std.specs.Option.{unwrap_or, is_some}
 use Rattle.std.proofs.Math.ListN.{set}
 use Rattle.std.proofs.lemmas.List.{take_more_set, get_or-take, get_or_past, length-take}
@@ -8,11 +8,13 @@ use Rattle.ld_num.specs.declared.dec.NumError.{NumError}
 use Rattle.ld_num.specs.declared.dec.NumError.TheVariants.{NotANumber, OutOfRange}
 use Rattle.ld_num.specs.declared.point.Point.{Point}
 use Rattle.ld_line.specs.declared.line.Kind.{Kind}
-use Rattle.ld_line.specs.declared.line.Line.TheVariants.{Draw, Other}
+use Rattle.ld_line.specs.declared.line.Line.TheVariants.{Draw}
 use Rattle.ld_line.specs.Colour.{colour_word}
 use Rattle.ld_line.specs.Kind.{points_in}
-use Rattle.ld_line.specs.Reading.{draw_of, drawn, is_direct}
-use Rattle.ld_line.specs.Numbers.{numbers_of, onto_numbers, ranged, points_of, point_at}
+use Rattle.ld_line.specs.Reading.{draw_of, drawn}
+use Rattle.ld_line.specs.Field.{after_field, after_fields, fields}
+use Rattle.ld_line.specs.Numbers.{angles_of, numbers_of, onto_numbers, placement_of, points_of}
+use Rattle.ld_line.specs.Series.{ranged, taken}
 
 -- the numbers so far, which may be out of range, before those that are still to be read
 abbrev pub after : List ℤ → Bool → Result (List ℤ) NumError → Result (List ℤ) NumError
@@ -46,7 +48,33 @@ points_of-taken numbers count zeros =
     let at = get_or-taken numbers count zeros in
     rw (at 0, at 1, at 2, at 3, at 4, at 5, at 6, at 7, at 8, at 9, at 10, at 11) refl
 
--- what is drawn by a colour word and numbers that can be read
-pub draw_of-read : (kind : Kind) (all more : List (List ℕ)) (field : List ℕ) (colour : ℕ) (taken : List ℤ) (points : List Point) → all ≡ field ∷ more → colour_word field ≡ Some colour → is_direct colour ≡ false → numbers_of (3 * points_in kind) more ≡ Ok taken → points ≡ points_of taken → draw_of kind all ≡ Draw kind colour points
-draw_of-read kind all more field colour taken points parts word plain numbers are =
-    ap (draw_of kind) parts ∙ ap (λ c. drawn kind c (numbers_of (3 * points_in kind) more)) word ∙ ap (drawn kind (Some colour)) numbers ∙ ap (λ b. cond b Other (Draw kind colour (points_of taken))) plain ∙ ap (Draw kind colour) (sym are)
+pub placement_of-taken : (numbers : List ℤ) (count : ℕ) → ((k : ℕ) → count ≤ k → get_or numbers k (pos 0) ≡ pos 0) → placement_of (take count numbers) ≡ placement_of numbers
+placement_of-taken numbers count zeros =
+    let at = get_or-taken numbers count zeros in
+    rw (at 0, at 1, at 2, at 3, at 4, at 5, at 6, at 7, at 8, at 9, at 10, at 11) refl
+
+pub angles_of-taken : (numbers : List ℤ) (count : ℕ) → ((k : ℕ) → count ≤ k → get_or numbers k (pos 0) ≡ pos 0) → angles_of (take count numbers) ≡ angles_of numbers
+angles_of-taken numbers count zeros =
+    let at = get_or-taken numbers count zeros in
+    rw (at 0, at 1, at 2) refl
+
+-- what a loop over the next numbers keeps: what was read and what is left make up the whole
+pub record Kept (i count : ℕ) (line rest : List ℕ) (values : List ℤ) (in_range : Bool) : Type 0 where
+  pub numbers : after (take i values) in_range (numbers_of (count - i) (fields rest)) ≡ numbers_of count (fields line)
+  pub fields_left : fields rest ≡ drop i (fields line)
+  pub rest_left : after_fields (count - i) rest ≡ after_fields count line
+  pub zeros : (k : ℕ) → i ≤ k → get_or values k (pos 0) ≡ pos 0
+  pub size : length values ≡ 12
+
+pub kept_rest : (i count : ℕ) (line rest more : List ℕ) → i < count → more ≡ after_field rest → after_fields (count - i) rest ≡ after_fields count line → after_fields (count - (i + 1)) more ≡ after_fields count line
+kept_rest i count line rest more below is so_far =
+    let left : count - i ≡ suc (count - (i + 1)) = omega arith in
+    ap (after_fields (count - (i + 1))) is ∙ ap (λ n. after_fields n rest) (sym left) ∙ so_far
+
+pub kept_fields : (i : ℕ) (line rest more : List ℕ) → fields more ≡ drop 1 (fields rest) → fields rest ≡ drop i (fields line) → fields more ≡ drop (i + 1) (fields line)
+kept_fields i line rest more is so_far = is ∙ ap (drop 1) so_far ∙ drop-drop 1 i (fields line)
+
+-- what is drawn by a colour word and numbers in range
+pub draw_of-read : (kind : Kind) (all more : List (List ℕ)) (field : List ℕ) (colour : ℕ) (values : List ℤ) (points : List Point) → all ≡ field ∷ more → Some colour ≡ colour_word field → numbers_of (3 * points_in kind) more ≡ Ok values → points ≡ points_of values → draw_of kind all ≡ Draw kind colour points
+draw_of-read kind all more field colour values points parts word numbers are =
+    ap (draw_of kind) parts ∙ ap (λ c. drawn kind c (numbers_of (3 * points_in kind) more)) (sym word) ∙ ap (drawn kind (Some colour)) numbers ∙ ap (Draw kind colour) (sym are)

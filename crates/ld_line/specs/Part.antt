@@ -1,0 +1,19 @@
+-- Part texts: Official Library Header Specification, "!LDRAW_ORG"; what counts as a part is this project's own.
+use Rattle.std.specs.Prelude.{ℕ, Bool, true, false, List, [], ◌∷◌, map}
+use Rattle.ld_names.specs.declared.file.Folder.{Folder}
+use Rattle.ld_names.specs.declared.file.Folder.TheVariants.{Model, Parts, P}
+use Rattle.ld_line.specs.declared.line.Line.{Line}
+use Rattle.ld_line.specs.declared.line.Line.TheVariants.{Org}
+use Rattle.ld_line.specs.Reading.{line_of}
+
+-- whether the first !LDRAW_ORG line names the type of a part
+abbrev pub is_part_by_header : List Line → Bool
+is_part_by_header [] = false
+is_part_by_header (Org part ∷ lines) = part
+is_part_by_header (line ∷ lines) = is_part_by_header lines
+
+-- whether a text in a folder is a part text
+unfoldable pub is_part_text : Folder → List (List ℕ) → Bool
+is_part_text Parts lines = true
+is_part_text P lines = true
+is_part_text Model lines = is_part_by_header (map line_of lines)
