@@ -34,3 +34,8 @@ TakesNothing status before after = Unit {0}
 abbrev pub UsageIsExact : Option (List ℕ) → Status → Type 0
 UsageIsExact None status = EndsAs status Usage × (status ≢ ReadFault)
 UsageIsExact (Some word) status = status ≢ Usage
+
+-- the run of this status wrote all of its output, unless memory was lacking: then it wrote nothing
+abbrev pub IsComplete : Status → Status → List ℕ → List ℕ → List ℕ → Type 0
+IsComplete Memory wanted bytes before after = after ≡ before
+IsComplete status wanted bytes before after = (status ≡ wanted) × (after ≡ before ++ bytes)

@@ -1,4 +1,5 @@
--- The faces of a text: what each of its lines gives, the first fault or all entries, and their printed texts.
+-- The faces of a text: what each of its lines gives, the first fault or all entries, and their printed texts, which are
+-- this project's own.
 use Rattle.std.specs.Prelude.{ℕ, ◌+◌, Bool, ◌&&◌, nat_le, if◌then◌else◌, List, [], ◌∷◌, ◌++◌, Option, Some, None, Result, Ok, Err, take, codes, decimal}
 use Rattle.std.specs.List.{flat_map}
 use Rattle.ld_num.specs.Text.{dec_text}

@@ -1,13 +1,16 @@
 -- What a run writes and how it ends (this project's own).
-use Rattle.std.specs.Prelude.{◌≡◌, ℕ, ◌<◌, nat_lt, List, [], ◌∷◌, ◌++◌, length, Option, Some, None, Result, Ok, Err, codes, if◌then◌else◌, ◌==◌, ◌||◌, Bool}
+use Rattle.std.specs.Prelude.{◌≡◌, ℕ, ◌<◌, nat_lt, List, [], ◌∷◌, ◌++◌, length, Option, Some, None, Result, Ok, Err, codes, decimal, if◌then◌else◌, ◌==◌, ◌||◌, Bool}
 use Rattle.std.specs.List.{list_any}
-use Rattle.ld_io.specs.Shelf.{Files}
+use Rattle.ld_io.specs.Shelf as shelf
 use Rattle.ld_io.specs.declared.shelf.Place.TheVariants.{Work}
 use Rattle.ld_names.specs.Normal.{normal_of}
 use Rattle.ld_names.specs.declared.name.NameError.{NameError}
 use Rattle.ld_line.specs.Cut.{lines_of}
 use Rattle.ld_cmd.specs.declared.status.Status.{Status}
 use Rattle.ld_cmd.specs.declared.status.Status.TheVariants.{Done, Faulted, Usage, Input, ReadFault, WriteFault, Memory, Limit}
+use Rattle.ld_texts.specs.Learning.{Contents, limit_passed}
+use Rattle.ld_texts.specs.declared.change.Over.{Over}
+use Rattle.ld_texts.specs.declared.change.Over.TheVariants.{Files, Weight}
 use Rattle.ld_cmd.specs.Faces.{all_from, answer_of}
 use Rattle.ld_cmd.specs.Words.{command_of, usage_line}
 
@@ -41,9 +44,23 @@ abbrev pub answered : Result (List ℕ) (List ℕ) → Output
 answered (Ok text) = record { bytes = text; status = Done }
 answered (Err fault) = record { bytes = fault; status = Faulted }
 
+-- the line about a limit, with what was kept before it
+abbrev pub over_text : Over → List ℕ
+over_text (Files kept) = codes "full files " ++ decimal kept ++ codes "\n"
+over_text (Weight kept) = codes "full weight " ++ decimal kept ++ codes "\n"
+
+-- no texts, under the limits of the command
+abbrev pub no_texts : Contents
+no_texts = record { known = []; max_files = 65535; max_weight = 268435456; room = 0 }
+
+-- the faces of a model by its name and its lines, where it passes no limit
+abbrev pub model_output : List ℕ → List (List ℕ) → Option Over → Output
+model_output own lines None = answered (answer_of own (all_from 1 lines))
+model_output own lines (Some over) = record { bytes = over_text over; status = Limit }
+
 -- the faces of a text
 abbrev pub faces_of : List ℕ → List ℕ → Output
-faces_of word bytes = answered (answer_of (own_name word) (all_from 1 (lines_of bytes)))
+faces_of word bytes = model_output (own_name word) (lines_of bytes) (limit_passed no_texts (Some (lines_of bytes)))
 
 -- the faces of the file that a word names
 abbrev pub faces_output : List ℕ → Option (List ℕ) → Output
@@ -53,10 +70,10 @@ faces_output word (Some bytes) = if nat_lt file_bytes (length bytes) then record
 abbrev pub usage : Output
 usage = record { bytes = usage_line; status = Usage }
 
-abbrev pub commanded : Option (List ℕ) → Files → Output
+abbrev pub commanded : Option (List ℕ) → shelf.Files → Output
 commanded None files = usage
 commanded (Some word) files = faces_output word (files Work word)
 
 -- what words give over the files of a shelf
-unfoldable pub output : List (List ℕ) → Files → Output
+unfoldable pub output : List (List ℕ) → shelf.Files → Output
 output words files = commanded (command_of words) files

@@ -12,7 +12,7 @@ pub(crate) fn print_entry(
     kind: Kind,
     colour: u32,
     points: &[Point; 4],
-    number: usize,
+    number: u32,
     into: &mut Vec<u8>,
 ) -> Result<(), AllocError>
     ensures { OnOk result (into.new.items ≡ into.old.items ++ entry_text own.now kind colour points.now number) }
@@ -48,7 +48,7 @@ fn print_point(point: Point, into: &mut Vec<u8>) -> Result<(), AllocError>
     print_dec(point.z, into)
 }
 
-pub(crate) fn print_source(own: &[u8], number: usize, into: &mut Vec<u8>) -> Result<(), AllocError>
+pub(crate) fn print_source(own: &[u8], number: u32, into: &mut Vec<u8>) -> Result<(), AllocError>
     ensures { OnOk result (into.new.items ≡ into.old.items ++ source_text own.now number) }
 {
     into.extend_from_slice(b"model/")?;

@@ -1,4 +1,5 @@
-ghost use Rattle.std.specs.Prelude.{◌≡◌, ℕ, List, Option, Result, ◌++◌, IfOk};
+ghost use Rattle.std.specs.Prelude.{◌≡◌, ℕ, List, Option, Result, ◌++◌, IfOk, Some};
+ghost use Rattle.ld_texts.specs.Known.{lines_at};
 ghost use Rattle.ld_cmd.specs.Chain.{onto, outcomes_onto, stopped_or};
 ghost use Rattle.ld_line.specs.Block.{block_line_of};
 ghost use Rattle.ld_cmd.specs.Faces.{all_from, answer_of, is_direct, outcomes_at, outcomes_of};
@@ -7,8 +8,9 @@ ghost use Rattle.ld_cmd.specs.Shown.{outcomes_shown, shown};
 use crate::entry::print_entry;
 use crate::fault::{What, print_fault};
 use ld_line::{BlockLine, Kind, Line, block_line, read_line};
-use ld_names::Bytes;
+use ld_names::TextId;
 use ld_num::Point;
+use ld_texts::Texts;
 use std::alloc::{AllocError, Global};
 
 // The faces of a text, or its fault, as printed.
@@ -30,13 +32,24 @@ enum Outcome {
     Fault(What),
 }
 
-pub(crate) fn print_faces(alloc: Global, own: &[u8], lines: &[Bytes]) -> Result<Faces, AllocError>
-    ensures { IfOk result (λ faces. shown faces ≡ answer_of own.now (all_from 1 lines.now)) }
+// Prints the faces of a present text, whose file has this name.
+pub(crate) fn print_faces(
+    alloc: Global,
+    own: &[u8],
+    texts: &Texts,
+    id: TextId,
+) -> Result<Faces, AllocError>
+    ensures { (lines : List (List ℕ)) → lines_at texts.now.known id.0 ≡ Some lines
+        → IfOk result (λ faces. shown faces ≡ answer_of own.now (all_from 1 lines)) }
 {
     let mut text = Vec::new(alloc);
-    for (index, line) in lines.iter().enumerate() {
-        if let Some(what) = print_line(alloc, own, line.as_slice(), index + 1, &mut text)? {
-            let fault = print_fault(alloc, own, what, index + 1)?;
+    let count = texts.len(id).unwrap_or(0);
+    for before in 0..count {
+        let Some(line) = texts.line(id, before + 1) else {
+            unreachable!();
+        };
+        if let Some(what) = print_line(alloc, own, line, before + 1, &mut text)? {
+            let fault = print_fault(alloc, own, what, before + 1)?;
             return Ok(Faces::Fault(fault));
         }
     }
@@ -48,7 +61,7 @@ fn print_line(
     alloc: Global,
     own: &[u8],
     line: &[u8],
-    number: usize,
+    number: u32,
     into: &mut Vec<u8>,
 ) -> Result<Option<What>, AllocError>
     ensures { IfOk result (λ fault. (more : Result (List ℕ) (List ℕ)) →

@@ -18,7 +18,7 @@ pub(crate) fn print_fault(
     alloc: Global,
     own: &[u8],
     what: What,
-    number: usize,
+    number: u32,
 ) -> Result<Vec<u8>, AllocError>
     ensures { IfOk result (λ text. text.items ≡ fault_text own.now what number) }
 {

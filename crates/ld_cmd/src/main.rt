@@ -9,9 +9,11 @@ mod make;
 mod os;
 mod run;
 mod status;
+#[cfg(test)]
+mod tests;
 mod words;
 
-pub use run::run;
+pub use run::{run, run_in_memory};
 pub use status::Status;
 use std::process::ExitCode;
 

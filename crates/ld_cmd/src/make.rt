@@ -3,21 +3,29 @@ ghost use Rattle.ld_io.specs.Faults.{HasRisen};
 ghost use Rattle.ld_names.specs.Normal.{GivesName};
 ghost use Rattle.ld_names.specs.declared.name.NameError.{NameError};
 ghost use Rattle.ld_cmd.specs.Ending.{is_whole};
-ghost use Rattle.ld_cmd.specs.Output.{after_slash, faces_of, faces_output, named, output, own_name, usage};
-ghost use Rattle.ld_cmd.specs.Shown.{IsFile, made};
+ghost use Rattle.ld_cmd.specs.Output.{after_slash, answered, faces_of, faces_output, named, output, over_text, own_name, usage};
+ghost use Rattle.ld_cmd.specs.Shown.{IsFile, made, shown};
 ghost use Rattle.ld_cmd.specs.Words.{command_of};
 
 use crate::faces::{Faces, print_faces};
 use crate::made::{Made, Stop};
 use crate::status::Status;
 use crate::words::{USAGE, command};
+use itoa::Buffer;
 use ld_io::{FetchError, Fetched, Place, Shelf};
 use ld_line::lines_of;
-use ld_names::{Name, NameError, normal};
+use ld_names::{FileId, Folder, Name, NameError, normal};
+use ld_texts::{LearnError, Over, Texts};
 use std::alloc::{AllocError, Global};
 
 // The most bytes that a file may have.
 const FILE_BYTES: u64 = 33_554_432;
+
+// The most files that may be known.
+const TEXTS: u32 = 65_535;
+
+// The most that their texts may weigh, by the bytes of their lines and 32 more for each line.
+const TOTAL_WEIGHT: u64 = 268_435_456;
 
 // What is at a path.
 #[derive(Debug, Drop)]
@@ -86,18 +94,56 @@ fn make_faces(alloc: Global, word: &[u8], bytes: &[u8]) -> Result<Made, Stop>
     ensures no_usage { IfOk result (λ m. m.status ≢ Status.Usage) }
     ensures no_fault { result ≢ Err Stop.ReadFault }
 {
-    let own = own_name(alloc, word)?;
+    let file = FileId {
+        folder: Folder::Model,
+        name: own_name(alloc, word)?,
+    };
     let lines = lines_of(alloc, bytes)?;
-    match print_faces(alloc, own.bytes(), lines.as_slice())? {
-        Faces::Shown(text) => Ok(Made {
+    let mut texts = Texts::new(alloc, TEXTS, TOTAL_WEIGHT);
+    match texts.prepare_file(&file, Some(lines)) {
+        Ok(ready) => {
+            let change = texts.commit(ready);
+            let faces = print_faces(alloc, file.name.bytes(), &texts, change.first.0)?;
+            Ok(make_whole(faces))
+        }
+        Err(LearnError::Full(over)) => make_full(alloc, over),
+        Err(LearnError::Memory) => Err(Stop::Memory),
+    }
+}
+
+fn make_whole(faces: Faces) -> Made
+    ensures made { made result ≡ answered (shown faces) }
+    ensures no_usage { result.status ≢ Status.Usage }
+{
+    match faces {
+        Faces::Shown(text) => Made {
             text,
             status: Status::Done,
-        }),
-        Faces::Fault(text) => Ok(Made {
+        },
+        Faces::Fault(text) => Made {
             text,
             status: Status::Faulted,
-        }),
+        },
     }
+}
+
+// The line about a limit that is passed, with what was kept before it.
+fn make_full(alloc: Global, over: Over) -> Result<Made, Stop>
+    ensures made { IfOk result (λ m. made m ≡ record { bytes = over_text over; status = Status.Limit }) }
+    ensures no_usage { IfOk result (λ m. m.status ≢ Status.Usage) }
+    ensures no_fault { result ≢ Err Stop.ReadFault }
+{
+    let (what, kept) = match over {
+        Over::Files(kept) => (b"full files ".as_slice(), u64::from(kept)),
+        Over::Weight(kept) => (b"full weight ".as_slice(), kept),
+    };
+    let mut text = Vec::from_slice(alloc, what)?;
+    text.extend_from_slice(Buffer::new().format(kept).as_bytes())?;
+    text.push(b'\n')?;
+    Ok(Made {
+        text,
+        status: Status::Limit,
+    })
 }
 
 // A line about the file that a word names.

@@ -1,13 +1,14 @@
 ghost use Rattle.std.specs.Prelude.{◌≡◌, ◌≢◌, ◌≤◌, IfSome, None, is_some, map, string_bytes};
 ghost use Rattle.ld_io.specs.Faults.{HasRisen};
-ghost use Rattle.ld_cmd.specs.Ending.{EndsAs, Takes, TakesNothing, UsageIsExact};
+ghost use Rattle.ld_io.specs.Files.{file_of};
+ghost use Rattle.ld_cmd.specs.Ending.{EndsAs, IsComplete, Takes, TakesNothing, UsageIsExact};
 ghost use Rattle.ld_cmd.specs.Output.{output};
 ghost use Rattle.ld_cmd.specs.Words.{command_of, usage_line};
 
 use crate::made::{Made, Stop};
 use crate::make::make_output;
 use crate::status::Status;
-use ld_io::{PutError, Shelf, Sink};
+use ld_io::{PutError, Shelf, Sink, SureShelf, SureSink};
 use std::alloc::Global;
 
 /// Runs the command that the words name (the words after the program's name): reads its files from
@@ -39,6 +40,21 @@ pub fn run<S: Shelf, K: Sink>(alloc: Global, words: &[String], shelf: &mut S, ou
         Err(Stop::ReadFault) => Status::ReadFault,
         Err(Stop::Memory) => Status::Memory,
     }
+}
+
+/// Runs a command over files in memory, which neither reading nor writing keeps from its whole
+/// output.
+#[tactic(auto, using(crate::proofs::Endings::is_complete))]
+pub fn run_in_memory(
+    alloc: Global,
+    words: &[String],
+    shelf: &mut SureShelf,
+    out: &mut SureSink,
+) -> Status
+    ensures { let wanted = output (map string_bytes words.now) (file_of shelf.old) in
+        IsComplete result wanted.status wanted.bytes out.old out.new }
+{
+    run(alloc, words, shelf, out)
 }
 
 #[tactic(auto, using(crate::proofs::Endings::takes_whole))]

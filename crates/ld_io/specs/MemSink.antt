@@ -19,7 +19,8 @@ listed_len failing call = option_map (λ newest. newest.1) (find (λ newest. new
 -- how many bytes of the piece, but not all, the next put takes before it fails, if it is to fail
 abbrev pub taken_len : State → List ℕ → Option ℕ
 taken_len s [] = None
-taken_len s (byte ∷ bytes) = option_map (λ taken. min taken (length bytes)) (listed_len s.failing (next_count s.puts))
+taken_len s (byte ∷ bytes) =
+    option_map (λ taken. min taken (length bytes)) (listed_len s.failing (next_count s.puts))
 
 -- after a put that took these bytes
 abbrev pub with_put : State → List ℕ → State

@@ -26,12 +26,13 @@ FetchFits max (Err Failed) bytes = Unit {0}
 FetchFits max (Err TooBig) bytes = length bytes ≡ max + 1
 FetchFits max (Err Memory) bytes = Unit {0}
 
--- what the bytes are after a fetch of at most `max`, where the shelf has this file
+-- what the bytes are after a fetch of at most `max`, where `file` is what the shelf has
 abbrev pub FetchTold : Option (List ℕ) → ℕ → Result Fetched FetchError → List ℕ → Type 0
 FetchTold file max (Ok Found) bytes = file ≡ Some bytes
 FetchTold file max (Ok Absent) bytes = file ≡ None
 FetchTold file max (Err Failed) bytes = Unit {0}
-FetchTold file max (Err TooBig) bytes = IsSomeAnd file (λ all. (max < length all) × (bytes ≡ take (max + 1) all))
+FetchTold file max (Err TooBig) bytes =
+    IsSomeAnd file (λ all. (max < length all) × (bytes ≡ take (max + 1) all))
 FetchTold file max (Err Memory) bytes = Unit {0}
 
 -- the count of faults after a fetch of a shelf that counts exactly its failed ones

@@ -13,7 +13,8 @@ PutCause before after (Err Memory) = Unit {0}
 -- the bytes taken after a put: with the whole piece, with a proper prefix of it, or as before
 abbrev pub PutTold : {A : Type 0} → List ℕ → List ℕ → Result A PutError → Option (List ℕ) → Type 0
 PutTold before piece (Ok done) after = after ≡ Some (before ++ piece)
-PutTold before piece (Err Failed) after = (n : ℕ) × (n < length piece) × (after ≡ Some (before ++ take n piece))
+PutTold before piece (Err Failed) after =
+    (n : ℕ) × (n < length piece) × (after ≡ Some (before ++ take n piece))
 PutTold before piece (Err Memory) after = after ≡ Some before
 
 -- the count of faults after a put into a sink that counts exactly its failed ones

@@ -24,7 +24,12 @@ impl Model for MemShelf {
 
     ghost Value = { State };
 
-    ghost view = { λ s. record { files = s.shelf; failing = s.failing.items; fetches = s.fetches; faults = s.faults } };
+    ghost view = { λ s. record {
+      files = s.shelf;
+      failing = s.failing.items;
+      fetches = s.fetches;
+      faults = s.faults;
+    } };
 }
 
 impl MemShelf {
@@ -55,7 +60,8 @@ impl MemShelf {
     /// Makes the fetch of this number fail. Fetches are counted from 1, and all behind the
     /// 2^64 - 1st have its number.
     pub fn fail(&mut self, call: u64) -> Result<(), AllocError>
-        ensures ok { OnOk result (self.new ≡ record self.old { failing = self.old.failing ++ call ∷ [] }) }
+        ensures ok { OnOk result (self.new ≡
+            record self.old { failing = self.old.failing ++ call ∷ [] }) }
         ensures err { OnErr result (self.new ≡ self.old) }
     {
         self.failing.push(call)?;

@@ -22,7 +22,12 @@ impl Model for MemSink {
 
     ghost Value = { State };
 
-    ghost view = { λ s. record { bytes = s.bytes.items; failing = s.failing.items; puts = s.puts; faults = s.faults } };
+    ghost view = { λ s. record {
+      bytes = s.bytes.items;
+      failing = s.failing.items;
+      puts = s.puts;
+      faults = s.faults;
+    } };
 }
 
 impl MemSink {
@@ -46,7 +51,8 @@ impl MemSink {
     ///
     /// Puts are counted from 1, and all behind the 2^64 - 1st have its number.
     pub fn fail(&mut self, call: u64, taken: u64) -> Result<(), AllocError>
-        ensures ok { OnOk result (self.new ≡ record self.old { failing = (call, taken) ∷ self.old.failing }) }
+        ensures ok { OnOk result (self.new ≡
+            record self.old { failing = (call, taken) ∷ self.old.failing }) }
         ensures err { OnErr result (self.new ≡ self.old) }
     {
         self.failing.insert(0, (call, taken))?;

@@ -1,5 +1,5 @@
 // Files of the system.
-ghost use Rattle.std.specs.Prelude.{◌≡◌, ◌<◌, ◌≤◌, ◌^◌, ◌++◌, [], None, MatchOption, IfOk, vec_len, string_bytes, Contains, IsUtf8};
+ghost use Rattle.std.specs.Prelude.{◌≡◌, ◌<◌, ◌≤◌, ◌^◌, ◌++◌, [], None, MatchOption, OnOk, IfOk, IfSome, take, vec_len, string_bytes, Contains, IsUtf8};
 ghost use Rattle.ld_io.specs.OsShelf.{path_of, HasNoPath, stopped_by};
 ghost use Rattle.ld_io.specs.Shelf.{FetchFits, faults_after_fetch};
 
@@ -26,7 +26,11 @@ impl<R> Model for OsShelf<R> {
 
     ghost Value = { State };
 
-    ghost view = { λ s. record { library = string_bytes s.library; model = string_bytes s.model; faults = s.faults } };
+    ghost view = { λ s. record {
+      library = string_bytes s.library;
+      model = string_bytes s.model;
+      faults = s.faults;
+    } };
 }
 
 impl<R> OsShelf<R> {
@@ -47,7 +51,8 @@ impl<R> OsShelf<R> {
     // Counts the fault, where the error is one.
     fn stopped_by(&mut self, kind: ErrorKind) -> Result<Fetched, FetchError>
         ensures answer { result ≡ stopped_by kind }
-        ensures counted { self.new ≡ record self.old { faults = faults_after_fetch self.old.faults result } }
+        ensures counted { self.new ≡
+            record self.old { faults = faults_after_fetch self.old.faults result } }
         ensures never_falls { self.old.faults ≤ self.new.faults }
     {
         match kind {
@@ -88,7 +93,8 @@ fn joined(alloc: Global, folder: &str, between: &str, name: &str) -> Result<Stri
 
 // A name that can end a path.
 fn path_end(name: &[u8]) -> Option<&str>
-    ensures { MatchOption result (HasNoPath name.now) (λ end. (¬ (HasNoPath name.now)) × (end.now ≡ name.now)) }
+    ensures { MatchOption result (HasNoPath name.now)
+        (λ end. (¬ (HasNoPath name.now)) × (end.now ≡ name.now)) }
 {
     if name.contains(&0) {
         return None;
@@ -96,18 +102,26 @@ fn path_end(name: &[u8]) -> Option<&str>
     str::from_utf8(name).ok()
 }
 
-// Reads at most `most` bytes of the file at a path.
-fn read_start(rt: &impl Files, path: &str, most: u64, into: &mut Vec<u8>) -> io::Result<()>
-    requires empty { into.old.items ≡ [] }
-    requires small { most ≤ 2 ^ 32 }
+fn read_file(rt: &impl Files, path: &str, most: u64, into: &mut Vec<u8>) -> io::Result<()>
+    requires { into.old.items ≡ [] }
     ensures { vec_len into.new ≤ most }
 {
     let file = fs::open(rt, path)?;
-    // The size is a hint: it saves moving the bytes as they become more.
+    // One more than the size, so that the end is met without another growth.
     if let Ok(metadata) = file.metadata() {
-        into.reserve_exact(metadata.len().min(most) as usize)?;
+        into.reserve_exact(metadata.len().saturating_add(1).min(most) as usize)?;
     }
+    read_first(file, most, into)
+}
+
+// Reads the first `most` bytes of a file.
+fn read_first<F: Read + Drop>(file: F, most: u64, into: &mut Vec<u8>) -> io::Result<()>
+    requires { into.old.items ≡ [] }
+    ensures bound { vec_len into.new ≤ most }
+    ensures bytes { OnOk result (IfSome (F.remaining file) (λ all. into.new.items ≡ take most all)) }
+{
     let read = file.take(most).read_to_end(into);
+    // Nothing is cut off: the contract of `take` does not give the bound.
     into.truncate(most as usize);
     read?;
     Ok(())
@@ -127,7 +141,8 @@ impl<R: Files + AllocGlobal + Drop> Shelf for OsShelf<R> {
     ) -> Result<Fetched, FetchError>
         requires empty { into.old.items ≡ [] }
         requires small { max < 2 ^ 32 }
-        ensures counted { self.new ≡ record self.old { faults = faults_after_fetch self.old.faults result } }
+        ensures counted { self.new ≡
+            record self.old { faults = faults_after_fetch self.old.faults result } }
         ensures never_falls { self.old.faults ≤ self.new.faults }
         ensures no_path { HasNoPath name.now → result ≡ Ok Fetched.Absent }
         ensures fits { FetchFits max result into.new.items }
@@ -136,7 +151,7 @@ impl<R: Files + AllocGlobal + Drop> Shelf for OsShelf<R> {
             return Ok(Fetched::Absent);
         };
         let path = self.path(place, end)?;
-        match read_start(&self.rt, path.as_str(), max + 1, into) {
+        match read_file(&self.rt, path.as_str(), max + 1, into) {
             Ok(()) if into.len() as u64 > max => Err(FetchError::TooBig),
             Ok(()) => Ok(Fetched::Found),
             Err(error) => {

@@ -1,5 +1,5 @@
 -- Cutting a text at its line feeds, one piece at a time.
-use Rattle.std.proofs.Common.{◌≡◌, ◌<◌, ◌≤◌, ◌+◌, ℕ, Bool, true, false, List, [], ◌∷◌, ◌++◌, cond, length, take, drop, get_or, map, refl, ap, sym, ◌∙◌, arith, tests, append_assoc, ◌==◌, Option, Some, None}
+use Rattle.std.proofs.Common.{◌≡◌, ◌<◌, ◌+◌, ℕ, Bool, true, false, List, [], ◌∷◌, ◌++◌, cond, length, take, drop, map, refl, ap, sym, ◌∙◌, arith, tests, append_assoc, ◌==◌, Some, None}
 use Rattle.std.specs.List.{slice_split, onto_first, position_or_len}
 use Rattle.std.specs.Str.Lines.{strip_carriage_return}
 use Rattle.std.proofs.lemmas.List.Splits.{slice_split_none, slice_split_first}

@@ -1,9 +1,9 @@
 -- Taking the fields of a line one by one.
-use Rattle.std.proofs.Common.{◌≡◌, ◌<◌, ◌≤◌, ◌+◌, ℕ, Bool, true, false, List, [], ◌∷◌, cond, length, take, drop, get_or, refl, ap, sym, ◌∙◌, arith, filter, not, suc, add-one, tests, ⊎_elim}
+use Rattle.std.proofs.Common.{◌≡◌, ◌<◌, ◌≤◌, ℕ, Bool, true, false, List, [], ◌∷◌, cond, length, take, drop, get_or, refl, ap, sym, ◌∙◌, arith, filter, not, suc, add-one, tests, ⊎_elim}
 use Rattle.std.proofs.Math.Seq.{drop-cons}
 use Rattle.std.proofs.lemmas.Bool.{cases_lt}
 use Rattle.std.proofs.lemmas.List.{length-take-le, take_all, drop_all}
-use Rattle.std.specs.List.{slice_split, position_or_len}
+use Rattle.std.specs.List.{position_or_len}
 use Rattle.std.proofs.lemmas.List.Splits.{slice_split_none, slice_split_first}
 use Rattle.std.proofs.lemmas.List.Sums.{prefix_len_stops, prefix_len_passes, prefix_len-le-length}
 use Rattle.ld_names.specs.Normal.{is_blank, trim_start}

@@ -14,7 +14,7 @@ use Rattle.ld_line.specs.Kind.{points_in}
 use Rattle.ld_line.specs.Reading.{draw_of, drawn}
 use Rattle.ld_line.specs.Field.{after_field, after_fields, fields}
 use Rattle.ld_line.specs.Numbers.{angles_of, numbers_of, onto_numbers, placement_of, points_of}
-use Rattle.ld_line.specs.Series.{ranged, taken}
+use Rattle.ld_line.specs.Series.{ranged}
 
 -- the numbers so far, which may be out of range, before those that are still to be read
 abbrev pub after : List ℤ → Bool → Result (List ℤ) NumError → Result (List ℤ) NumError

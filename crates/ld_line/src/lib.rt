@@ -9,6 +9,8 @@ mod line;
 mod meta;
 mod number;
 mod read;
+#[cfg(test)]
+mod tests;
 
 pub use block::block_line;
 pub use colour::read_colour;

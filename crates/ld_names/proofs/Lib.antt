@@ -1,1 +1,2 @@
+pub mod Learnt
 pub mod Trim

@@ -1,9 +1,8 @@
 -- Trimming a text from its end, and trimming what is trimmed.
-use Rattle.std.proofs.Common.{◌≡◌, ◌≤◌, ◌==◌, ℕ, length, nat_lt, Bool, true, false, List, [], ◌∷◌, ◌++◌, cond, map, refl, ap, sym, ◌∙◌, rules, tests, arith, Result, Ok, Err}
+use Rattle.std.proofs.Common.{◌≡◌, ◌≤◌, ◌==◌, ℕ, length, nat_lt, Bool, true, false, List, [], ◌∷◌, ◌++◌, cond, map, refl, ap, sym, ◌∙◌, tests, arith, Ok}
 use Rattle.std.proofs.lemmas.List.{length-map}
 use Rattle.std.specs.List.{list_any}
 use Rattle.ld_names.specs.Normal.{is_blank, onto_trimmed, trim_end, trim_start, trim, lower, normal_of, checked, is_relative, is_control}
-use Rattle.ld_names.specs.declared.name.NameError.{NameError}
 
 onto_trimmed_some : (x : ℕ) (xs : List ℕ) (y : ℕ) → onto_trimmed x (xs ++ y ∷ []) ≡ x ∷ xs ++ y ∷ []
 onto_trimmed_some x [] y = refl

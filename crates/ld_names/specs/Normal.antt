@@ -1,6 +1,6 @@
--- The normal form of file names: File Format 1.0.2 ("Line Type 1") compares them without regard to case,
--- and takes `\` and `/` alike.
-use Rattle.std.specs.Prelude.{◌≡◌, ◌==◌, ◌&&◌, ◌||◌, ℕ, Bool, true, false, not, List, [], ◌∷◌, length, map, Result, Ok, Err, if◌then◌else◌, nat_lt, nat_le, bytes_eq, codes, ⊤}
+-- The normal form of file names, which is this project's own. File Format 1.0.2 ("Line Type 1") has blanks
+-- around a name ignored, and writes `\` between folders.
+use Rattle.std.specs.Prelude.{◌≡◌, ◌==◌, ◌&&◌, ◌||◌, ℕ, Bool, false, not, List, [], ◌∷◌, length, map, Result, Ok, Err, if◌then◌else◌, nat_lt, nat_le, bytes_eq, codes, ⊤}
 use Rattle.std.specs.Char.{to_ascii_lowercase}
 use Rattle.std.specs.List.{list_any, slice_split}
 use Rattle.ld_names.specs.declared.name.NameError.{NameError}
@@ -29,7 +29,7 @@ trim_end (byte ∷ bytes) = onto_trimmed byte (trim_end bytes)
 abbrev pub trim : List ℕ → List ℕ
 trim bytes = trim_end (trim_start bytes)
 
--- a byte as names are compared
+-- a byte as it stands in a name: `\` is `/`, and capitals of ASCII are lowered
 abbrev pub lower : ℕ → ℕ
 lower byte = if byte == 92 then 47 else to_ascii_lowercase byte
 

@@ -1,6 +1,9 @@
--- Which file a reference finds. File Format 1.0.2 ("Line Type 1") names the library's folders; their order is
--- this project's own.
-use Rattle.std.specs.Prelude.{ℕ, List, [], ◌∷◌, Option, Some, None}
+-- Which texts stand, and which file a reference finds. File Format 1.0.2 ("Line Type 1") names the library's
+-- folders; their order is this project's own.
+use Rattle.std.specs.Prelude.{◌≡◌, ◌≢◌, ◌==◌, ◌&&◌, ℕ, Bool, List, [], ◌∷◌, ◌++◌, Option, Some, None, bytes_eq, unwrap_or, if◌then◌else◌}
+use Rattle.std.specs.Ordering.{nat_cmp, on, then_cmp}
+use Rattle.std.specs.declared.cmp.Ordering.{Ordering}
+use Rattle.std.specs.Cmp.Lexicographic.{slice_cmp}
 use Rattle.ld_names.specs.declared.file.FileId.{FileId}
 use Rattle.ld_names.specs.declared.file.Folder.{Folder}
 use Rattle.ld_names.specs.declared.file.Folder.TheVariants.{Model, Parts, P}
@@ -11,6 +14,20 @@ folders_of Model = Model ∷ Parts ∷ P ∷ []
 folders_of Parts = Parts ∷ P ∷ []
 folders_of P = Parts ∷ P ∷ []
 
+-- the place of a folder among the three
+abbrev pub folder_place : Folder → ℕ
+folder_place Model = 0
+folder_place Parts = 1
+folder_place P = 2
+
+-- a file is the other where its folder and the bytes of its name are
+abbrev pub same_file : FileId → FileId → Bool
+same_file file other = folder_place file.folder == folder_place other.folder && bytes_eq file.name other.name
+
+-- files by folder, and then by the bytes of their names
+abbrev pub file_cmp : FileId → FileId → Ordering
+file_cmp = then_cmp (on (λ file. folder_place file.folder) nat_cmp) (on (λ file. file.name) (slice_cmp nat_cmp))
+
 -- the lines of a file that is there, or none of one that is known to be absent
 abbrev pub Text : Type 0
 Text = Option (List (List ℕ))
@@ -18,6 +35,19 @@ Text = Option (List (List ℕ))
 -- what is known of each file: None of one that was never asked for
 abbrev pub Map : Type 0
 Map = FileId → Option Text
+
+-- the known files in the order in which they became known, each with its text
+abbrev pub Known : Type 0
+Known = List (FileId × Text)
+
+-- what the known files say of each file
+abbrev pub known_map : Known → Map
+known_map [] file = None
+known_map (first ∷ known) file = if same_file file first.0 then Some first.1 else known_map known file
+
+-- the texts as they stand: what is known, and for every other file what the shelf has
+abbrev pub standing : Map → (FileId → Text) → Map
+standing known shelf file = Some (unwrap_or (known file) (shelf file))
 
 -- what looking up a name gives
 pub data Found : Type 0 where
@@ -34,3 +64,11 @@ find_among known name (folder ∷ folders) =
 -- the file that a reference by this name finds, from a file of the folder
 abbrev pub find : Map → Folder → List ℕ → Found
 find known from name = find_among known name (folders_of from)
+
+-- over the standing texts nothing is unknown
+abbrev pub NothingUnknown : Type 0
+NothingUnknown = (known : Map) (shelf : FileId → Text) (from : Folder) (name : List ℕ) (folder : Folder) → find (standing known shelf) from name ≢ Unknown folder
+
+-- learning a file, with what the shelf has of it, leaves the texts as they stand
+abbrev pub LearningStays : Type 0
+LearningStays = (known : Known) (shelf : FileId → Text) (learnt file : FileId) → known_map known learnt ≡ None → standing (known_map (known ++ (learnt, shelf learnt) ∷ [])) shelf file ≡ standing (known_map known) shelf file

@@ -3,9 +3,13 @@
 #![tactic(auto)]
 
 mod file;
+mod laws;
 mod list;
 mod name;
+#[cfg(test)]
+mod tests;
 
 pub use file::{FileId, Folder, Folders, TextId, order};
+pub use laws::{file_laws, learning_law, lookup_law};
 pub use list::{Bytes, Lines, List};
 pub use name::{Name, NameError, blank, normal, trimmed_start};

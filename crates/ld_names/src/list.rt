@@ -36,12 +36,14 @@ impl<T> List<T> {
         }
     }
 
+    /// The items of a vector, which it keeps.
     pub fn from_vec(items: Vec<T>) -> List<T>
         ensures { result ≡ items.items }
     {
         List { items }
     }
 
+    /// The vector of its items.
     pub fn into_vec(self) -> Vec<T>
         ensures { result.items ≡ self }
     {
@@ -49,6 +51,7 @@ impl<T> List<T> {
         items
     }
 
+    /// Its items.
     pub fn as_slice(&self) -> &[T]
         ensures { result.now ≡ self.now }
     {
@@ -68,6 +71,7 @@ impl<T: Drop> List<T> {
 }
 
 impl<T: Copy> List<T> {
+    /// A list of the same items.
     pub fn from_slice(alloc: Global, items: &[T]) -> Result<List<T>, AllocError>
         ensures { IfOk result (λ list. list ≡ items.now) }
     {

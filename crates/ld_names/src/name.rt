@@ -33,13 +33,18 @@ impl Model for Name {
     ghost invariant = { λ name. normal_of name.bytes ≡ Ok name.bytes };
 }
 
-/// Why a text has no normal form.
+/// Why a text has no normal form: the first of these that applies. Blanks at its ends don't count.
 #[derive(Clone, Copy, Debug, PartialEq, Eq)]
 pub enum NameError {
+    /// Nothing is left.
     Empty,
+    /// More than 255 bytes are left.
     TooLong,
+    /// It begins with a drive, as `c:`, or a component between `/` is empty, `.` or `..`.
     NotRelative,
+    /// A byte is below 32 or is 127.
     Control,
+    /// Memory was lacking.
     Memory,
 }
 
@@ -51,8 +56,9 @@ impl From<AllocError> for NameError {
     }
 }
 
-/// The normal form of a file's name, as File Format 1.0.2 wants names compared: without regard to
-/// case, with `\` and `/` alike.
+/// The normal form of a file's name: without the spaces and tabs at both ends, with capitals of
+/// ASCII lowered, and with `/` for `\`. It is this project's own; File Format 1.0.2 ("Line Type 1")
+/// has blanks around a name ignored.
 #[tactic(auto, unfolding(crate::specs::Normal::normal_of))]
 pub fn normal(alloc: Global, text: &[u8]) -> Result<Name, NameError>
     ensures { GivesName result (normal_of text.now) }
@@ -119,13 +125,16 @@ pub fn blank(byte: u8) -> bool
 fn lowered(alloc: Global, text: &[u8]) -> Result<Vec<u8>, AllocError>
     ensures { IfOk result (λ bytes. bytes.items ≡ map lower text.now) }
 {
-    text.iter()
-        .map(|byte| if *byte == b'\\' {
-            b'/'
-        } else {
-            byte.to_ascii_lowercase()
-        })
-        .collect(alloc)
+    text.iter().map(|byte| lowered_byte(*byte)).collect(alloc)
+}
+
+fn lowered_byte(byte: u8) -> u8
+    ensures { result ≡ lower byte }
+{
+    match byte {
+        b'\\' => b'/',
+        _ => byte.to_ascii_lowercase(),
+    }
 }
 
 fn relative(name: &[u8]) -> bool
@@ -159,6 +168,7 @@ fn step(part: &[u8]) -> bool
 }
 
 impl Name {
+    /// The bytes of the name.
     pub fn bytes(&self) -> &[u8]
         ensures bytes { result.now ≡ self.now }
         ensures normal { normal_of self.now ≡ Ok self.now }

@@ -1,4 +1,4 @@
--- How a number is printed.
+-- How a number is printed (this project's own).
 use Rattle.std.specs.Prelude.{ℕ, ◌+◌, ◌-◌, ◌/◌, ◌%◌, ◌^◌, List, [], ◌∷◌, ◌++◌, ℤ, pos, negsuc, unsigned_abs, length, take, ◌==◌}
 use Rattle.std.specs.List.{suffix_len}
 use Rattle.std.specs.Fmt.{decimal}

@@ -1,4 +1,5 @@
-ghost use Rattle.std.specs.Prelude.{◌≡◌, ◌^◌, ◌+◌, ◌≤◌, min};
+// Digits, and the numbers that they write.
+ghost use Rattle.std.specs.Prelude.{◌≡◌, ◌^◌, ◌+◌, ◌*◌, ◌<◌, ◌≤◌, length, min, nat_le, slice_index, if◌then◌else◌};
 ghost use Rattle.std.specs.Char.{is_ascii_digit};
 ghost use Rattle.std.specs.List.{prefix_len};
 ghost use Rattle.std.specs.Str.Parse.{AllDigits, digits_value_after};
@@ -6,10 +7,23 @@ ghost use Rattle.std.specs.Str.Parse.{AllDigits, digits_value_after};
 // The greatest size in millionths.
 pub(crate) const MAX_SIZE: u64 = 1_000_000_000_000;
 
-// One more than the greatest size in millionths.
-pub(crate) const TOO_LARGE: u64 = 1_000_000_000_001;
+// A size that is out of range. Sums stop growing here.
+pub(crate) const TOO_LARGE: u64 = MAX_SIZE + 1;
 
-// The number that the digits write when they follow those of `start`, but at most `TOO_LARGE`.
+// How many digits stand first.
+pub(crate) fn digit_count(text: &[u8]) -> usize
+    ensures count { result ≡ prefix_len is_ascii_digit text.now }
+    ensures within { result ≤ length text.now }
+{
+    for (index, byte) in text.iter().enumerate() {
+        if !byte.is_ascii_digit() {
+            return index;
+        }
+    }
+    text.len()
+}
+
+// The number that the digits write when they follow those of `start`.
 pub(crate) fn capped(start: u64, digits: &[u8]) -> u64
     requires start { start ≤ TOO_LARGE }
     requires digits { AllDigits 10 digits.now }
@@ -22,14 +36,25 @@ pub(crate) fn capped(start: u64, digits: &[u8]) -> u64
     number
 }
 
-// How many digits stand before anything else.
-pub(crate) fn digit_count(text: &[u8]) -> usize
-    ensures { result ≡ prefix_len is_ascii_digit text.now }
+// The number with `count` zeros after it.
+pub(crate) fn with_zeros(number: u64, count: usize) -> u64
+    requires { number ≤ TOO_LARGE }
+    ensures { result ≡ min (number * 10 ^ count) TOO_LARGE }
 {
-    for (index, byte) in text.iter().enumerate() {
-        if !byte.is_ascii_digit() {
-            return index;
-        }
+    // Thirteen zeros are too many for every number but zero.
+    let power = 10u64.pow(count.min(13) as u32);
+    number.saturating_mul(power).min(TOO_LARGE)
+}
+
+// The number rounded by the digits that follow it.
+pub(crate) fn rounded(number: u64, dropped: &[u8]) -> u64
+    requires number { number ≤ TOO_LARGE }
+    requires dropped { 0 < length dropped.now }
+    ensures { result ≡ min (number + (if nat_le 53 (slice_index dropped.now 0) then 1 else 0)) TOO_LARGE }
+{
+    if dropped[0] >= b'5' {
+        (number + 1).min(TOO_LARGE)
+    } else {
+        number
     }
-    text.len()
 }

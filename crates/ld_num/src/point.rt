@@ -9,7 +9,7 @@ pub struct Point {
 }
 
 /// Where a sub-file reference puts a file: the point `x y z` in LDraw units, and the matrix `a b c / d e f / g h i`
-/// (LDraw.org File Format 1.0.2, line type 1).
+/// (File Format 1.0.2, "Line Type 1").
 #[derive(Clone, Copy, Debug, PartialEq, Eq)]
 pub struct Placement {
     pub x: Dec,

@@ -1,4 +1,5 @@
 ghost use Rattle.std.specs.Prelude.{◌≡◌, ◌+◌, ◌%◌, ◌≤◌, ◌++◌, length, OnOk, OnErr};
+ghost use Rattle.ld_num.specs.Number.{dec_of};
 ghost use Rattle.ld_num.specs.Text.{after_period, dec_text, sign_text, six_digits, without_last_zeros};
 
 use crate::Dec;
@@ -9,10 +10,11 @@ const MILLION: u64 = 1_000_000;
 
 /// Appends a number in decimals: `-` where it is negative, the whole part without leading zeros, and, where there is
 /// a fraction, a period and its digits without trailing zeros. Zero is `0`.
-#[tactic(auto, unfolding(crate::specs::Text::dec_text))]
+#[tactic(auto, using(crate::proofs::Printed::dec_again))]
 pub fn print_dec(value: Dec, into: &mut Vec<u8>) -> Result<(), AllocError>
     ensures ok { OnOk result (into.new.items ≡ into.old.items ++ dec_text value) }
     ensures err { OnErr result (into.new.items ≡ into.old.items) }
+    ensures read_back { dec_of (dec_text value) ≡ Ok value }
 {
     let size = value.millionths().unsigned_abs();
     let sign = sign_of(value);

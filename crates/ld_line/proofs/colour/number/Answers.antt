@@ -1,6 +1,5 @@
-use Rattle.std.proofs.Common.{◌≡◌, ◌≤◌, ◌+◌, ◌*◌, ◌^◌, ap, ◌∙◌, arith, sym, rules, tests}
-use Rattle.std.specs.Char.{is_digit, digit_value}
-use Rattle.std.specs.Str.Parse.{digits_value, digits_value_after}
+use Rattle.std.proofs.Common.{◌≡◌, ◌≤◌, ◌+◌, ◌*◌, ◌^◌, ap, ◌∙◌, arith, sym, tests}
+use Rattle.std.specs.Char.{digit_value}
 use Rattle.ld_line.proofs.Numbers.{digits_value-big, digits_value_after-end, list_all-end, number_of-big, number_of-some}
 use Rattle.ld_line.proofs.colour.number.Goals as goal
 

@@ -1,4 +1,4 @@
-use Rattle.std.proofs.Common.{arith, ◌≡◌, ◌+◌, ◌-◌, length, take, drop, sym, ap, ◌∙◌, refl, ◌∷◌}
+use Rattle.std.proofs.Common.{arith, ◌≡◌, ◌+◌, ◌-◌, length, take, drop, sym, ap, ◌∙◌, ◌∷◌}
 use Rattle.std.proofs.lemmas.List.{length-drop, take_all}
 use Rattle.std.specs.List.{slice_split}
 use Rattle.ld_line.specs.Cut.{is_line_feed}

@@ -1,7 +1,7 @@
-use Rattle.std.proofs.Common.{◌≡◌, ◌<◌, ◌∷◌, length, take, drop, ap, sym, ◌∙◌, arith, tests}
+use Rattle.std.proofs.Common.{◌≡◌, ◌<◌, length, take, arith, tests}
 use Rattle.std.specs.List.{position_or_len}
 use Rattle.ld_names.specs.Normal.{is_blank, trim_start}
-use Rattle.ld_line.specs.Field.{fields, after_field}
+use Rattle.ld_line.specs.Field.{after_field}
 use Rattle.ld_line.proofs.Fields.{fields-none, fields-first}
 use Rattle.ld_line.proofs.field.split_field.Goals as goal
 

@@ -1,4 +1,4 @@
-use Rattle.std.proofs.Common.{◌*◌, ap, sym, ◌∙◌, rules}
+use Rattle.std.proofs.Common.{◌*◌, ap, sym, ◌∙◌}
 use Rattle.ld_line.specs.Field.{fields}
 use Rattle.ld_line.specs.Numbers.{numbers_of}
 use Rattle.ld_line.specs.Series.{taken}

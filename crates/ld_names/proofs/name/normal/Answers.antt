@@ -1,4 +1,4 @@
-use Rattle.std.proofs.Common.{arith, rules}
+use Rattle.std.proofs.Common.{rules}
 use Rattle.ld_names.proofs.Trim.{normal_of-passed}
 use Rattle.ld_names.proofs.name.normal.Goals as goal
 

@@ -3,10 +3,10 @@ use Rattle.std.specs.Char.{is_ascii_digit}
 use Rattle.std.proofs.lemmas.List.Sums.{prefix_len_is}
 use Rattle.ld_num.proofs.digits.digit_count.Goals as goal
 
-pub returns-then-not-is_ascii_digit : goal.returns-then-not-is_ascii_digit
-returns-then-not-is_ascii_digit c =
+pub returns-then-not-is_ascii_digit-clause-count : goal.returns-then-not-is_ascii_digit-clause-count
+returns-then-not-is_ascii_digit-clause-count c =
     sym (prefix_len_is is_ascii_digit c.args.text.now c.loop-index.index 0 (omega arith) c.loop-index.invariant (λ h. search rules))
 
-pub returns : goal.returns
-returns c =
+pub returns-clause-count : goal.returns-clause-count
+returns-clause-count c =
     sym (prefix_len_is is_ascii_digit c.args.text.now _ 0 (omega arith) (λ k h. c.loop-index.invariant k (search rules)) (λ h. absurd (omega arith)))

@@ -1,0 +1,166 @@
+ghost use Rattle.std.specs.Prelude.{◌≡◌, Ok, Err, pos, negsuc, codes};
+ghost use Rattle.ld_num.specs.Number.{dec_of};
+
+use super::*;
+use std::alloc::{AllocError, Global};
+
+// The definitions compute.
+#[tactic(auto, unfolding(crate::specs::Number::dec_of, crate::specs::Number::numeral_of, crate::specs::Number::powers_of, crate::specs::Number::millionths_of))]
+fn numerals_compute()
+    ensures tie { dec_of (codes "1.0000005") ≡ Ok (pos 1000001) }
+    ensures negative { dec_of (codes "-.5") ≡ Ok (negsuc 499999) }
+    ensures no_negative_zero { dec_of (codes "-0") ≡ Ok (pos 0) }
+    ensures raised { dec_of (codes "1e6") ≡ Ok (pos 1000000000000) }
+    ensures lowered { dec_of (codes "-25E-02") ≡ Ok (negsuc 249999) }
+    ensures greatest { dec_of (codes "1000000.0000004") ≡ Ok (pos 1000000000000) }
+    ensures out_of_range { dec_of (codes "1000000.0000005") ≡ Err NumError.OutOfRange }
+    ensures two_periods { dec_of (codes "1.2.3") ≡ Err NumError.NotANumber }
+    ensures no_exponent { dec_of (codes "1e+") ≡ Err NumError.NotANumber }
+    ensures long_exponent { dec_of (codes "1e1234") ≡ Err NumError.NotANumber }
+{}
+
+// What is read of a text, as it is printed.
+fn told(alloc: Global, text: &[u8]) -> Result<Vec<u8>, AllocError> {
+    let mut line = Vec::new(alloc);
+    match read_dec(text) {
+        Ok(dec) => print_dec(dec, &mut line)?,
+        Err(NumError::NotANumber) => line.extend_from_slice(b"no number")?,
+        Err(NumError::OutOfRange) => line.extend_from_slice(b"too large")?,
+    }
+    Ok(line)
+}
+
+// In each line a text and what is printed of its number. A text that is printed so is read back.
+const ROWS: &str = "\
+0|0
+-0|0
++0|0
+000|0
+0.|0
+.0|0
+-.00|0
+-0e999|0
+0.0e-999|0
+1|1
++5|5
+-12|-12
+007|7
+100|100
+.5|0.5
+5.|5
+-.5|-0.5
++.250|0.25
+12.345678|12.345678
+-0.70711|-0.70711
+-10.203040|-10.20304
+1.000010|1.00001
+999999.999999|999999.999999
+2e3|2000
+2.5E-1|0.25
+25e-2|0.25
+-.5e-3|-0.0005
+1E+006|1000000
+0.001e3|1
+0.000001e12|1000000
+10000000e-1|1000000
+1234567e-7|0.123457
+1e-6|0.000001
+-1e-6|-0.000001
+1e-7|0
+1e-999|0
+1.5e0|1.5
+0.0000004|0
+-0.0000004|0
+0.0000005|0.000001
+-0.0000005|-0.000001
+0.00000049999999|0
+0.0000015|0.000002
+0.0000025|0.000003
+-0.0000025|-0.000003
+0.0000024999|0.000002
+5e-7|0.000001
+-25e-7|-0.000003
+49e-8|0
+51e-8|0.000001
+4e-7|0
+95e-8|0.000001
+1.0000005|1.000001
+1.00000049999999999999999999|1
+0.9999999|1
+18446744073709551616e-14|184467.440737
+99999999999999999999e-20|1
+1000000|1000000
+-1000000|-1000000
+999999.9999995|1000000
+1000000.0000004|1000000
+-1000000.0000004999|-1000000
+1000000.0000005|too large
+-1000000.0000005|too large
+1000000.000001|too large
+1000001|too large
+1e7|too large
+1E+007|too large
+-1e999|too large
+0.1e8|too large
+18446744073709551616|too large
+340282366920938463463374607431768211457|too large
+|no number
++|no number
+-.|no number
+.|no number
+e5|no number
+.e5|no number
+1e|no number
+1e+|no number
+1e1234|no number
+1e-0001|no number
+1e5.|no number
+1e.5|no number
+1e5e5|no number
+1e+-5|no number
+1.2.3|no number
+1..2|no number
+--1|no number
++-1|no number
+1-|no number
+ 1|no number
+1 |no number
+0x1|no number
+1f|no number
+1,5|no number
+/1|no number
+1:|no number
+inf|no number
+٣|no number
+";
+
+#[test]
+fn reads_and_prints_each_row(rt: HostRuntime) {
+    for row in ROWS.lines() {
+        let (text, want) = row.split_once('|').expect(&rt, "a row");
+        let line = told(rt.alloc(), text.as_bytes()).expect(&rt, "memory");
+        assert_eq!(rt; line.as_slice(), want.as_bytes(), "{text}");
+    }
+}
+
+#[test]
+fn reads_many_digits(rt: HostRuntime) {
+    let mut nines = vec![in rt.alloc(); b'9'; 100_000].expect(&rt, "memory");
+    assert!(rt; read_dec(&nines) == Err(NumError::OutOfRange));
+    nines[0] = b'.';
+    assert!(rt; read_dec(&nines).is_ok_and(|dec| dec.millionths() == 1_000_000));
+    let mut zeros = vec![in rt.alloc(); b'0'; 100_000].expect(&rt, "memory");
+    assert!(rt; read_dec(&zeros) == Ok(Dec::zero()));
+    zeros[99_999] = b'x';
+    assert!(rt; read_dec(&zeros) == Err(NumError::NotANumber));
+}
+
+fn crosses_threads<T: Send + Sync>() {}
+
+#[test]
+fn types_cross_threads() {
+    crosses_threads::<Dec>();
+    crosses_threads::<Point>();
+    crosses_threads::<Placement>();
+    crosses_threads::<NumError>();
+}
