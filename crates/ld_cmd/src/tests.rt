@@ -41,8 +41,11 @@ fn answer(alloc: Global, text: &str, file: &[u8]) -> Result<(Status, SureSink), 
 #[test]
 fn answers_over_files_in_memory(rt: HostRuntime) -> Result<(), Fail> {
     let table: [(&str, &str, Status, &str); 27] = [
+        // The worked example empty.
         ("faces|m.ldr", "", Status::Done, ""),
+        // The worked example rounding.
         ("faces|m.ldr", ROUNDING, Status::Done, ROUNDED),
+        // The worked example ends.
         (
             "faces|m.ldr",
             "2 24 1000000 0 0 0 0 0",
@@ -62,6 +65,7 @@ fn answers_over_files_in_memory(rt: HostRuntime) -> Result<(), Fail> {
             Status::Faulted,
             "fault range model/m.ldr:1\n",
         ),
+        // The malformed lines of the worked example direct-colours.
         (
             "faces|m.ldr",
             "1 16 0 0 0 1 0 0 0 1 0 0 0 1",
@@ -80,6 +84,7 @@ fn answers_over_files_in_memory(rt: HostRuntime) -> Result<(), Fail> {
             Status::Faulted,
             "fault malformed model/m.ldr:1\n",
         ),
+        // What a line gives, and the first fault.
         (
             "faces|m.ldr",
             "2 24 0 0 0 1 0 0\n2 24 2e6 0 0 1 0 0\n6 junk",
@@ -134,6 +139,7 @@ fn answers_over_files_in_memory(rt: HostRuntime) -> Result<(), Fail> {
             Status::Faulted,
             "fault unsupported model/m.ldr:1\n",
         ),
+        // The worked example words-and-inputs, and more words.
         ("", "", Status::Usage, USAGE),
         ("faces", "", Status::Usage, USAGE),
         ("faces|", "", Status::Usage, USAGE),
@@ -185,6 +191,7 @@ fn own_names_of_models(rt: HostRuntime) -> Result<(), Fail> {
     Ok(())
 }
 
+// The worked example faults-of-the-outside, and a put that fails after each number of bytes.
 #[test]
 fn the_outside_fails(rt: HostRuntime) -> Result<(), Fail> {
     let alloc = rt.alloc();

@@ -9,6 +9,7 @@ use crate::*;
 use std::cmp::Ordering;
 use std::test::Fail;
 
+// The worked example names, and more names.
 #[test]
 fn normal_forms(rt: HostRuntime) {
     use NameError::{Control, Empty, NotRelative, TooLong};
