@@ -1,0 +1,3 @@
+pub mod LineState
+pub mod Passing
+pub mod Laws

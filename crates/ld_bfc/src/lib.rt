@@ -1,0 +1,13 @@
+//! Back face culling as it stands at each line of an LDraw text, and what references pass down of
+//! it: the Back Face Culling (BFC) Language Extension. No call takes memory.
+#![tactic(auto)]
+
+mod culling;
+mod laws;
+mod passing;
+#[cfg(test)]
+mod tests;
+
+pub use culling::{Cert, State, face, next, start};
+pub use laws::{quiet_line_law, state_laws, with_laws};
+pub use passing::{Below, below_of, with};
