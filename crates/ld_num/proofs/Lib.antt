@@ -2,4 +2,5 @@ pub mod Cut
 pub mod Nearest
 pub mod Printed
 pub mod Scanned
+pub mod Sizes
 pub mod Values

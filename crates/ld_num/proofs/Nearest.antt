@@ -9,7 +9,7 @@ use Rattle.std.proofs.lemmas.List.{length-append, length-drop, length-take-le, t
 use Rattle.std.proofs.lemmas.Nat.{pow-add}
 use Rattle.std.proofs.lemmas.Str.{digit_value_digit}
 use Rattle.std.proofs.lemmas.Str.Parse.{digit_from_value}
-use Rattle.ld_num.specs.Number.{nearest, millionths_of, Numeral}
+use Rattle.ld_num.specs.Number.{Numeral, millionths_of, nearest}
 use Rattle.ld_num.proofs.Values.{value-append, value-split, all_digits-append, all_digits-drop}
 
 pub tens : (k : ℕ) → 0 < 10 ^ k

@@ -15,7 +15,7 @@ use Rattle.std.proofs.lemmas.Nat.{pow-add}
 use Rattle.std.proofs.lemmas.Str.{digit_value_digit}
 use Rattle.std.proofs.lemmas.Str.Parse.{digit_from_value}
 use Rattle.ld_num.specs.Number.{Numeral, begins_with_minus, dec_of, millionths_of, nearest, numeral_of, powers_of, without_sign}
-use Rattle.ld_num.specs.Scan.{made}
+use Rattle.ld_num.specs.Scan.{numeral_in}
 use Rattle.ld_num.specs.Text.{after_period, dec_text, six_digits, without_last_zeros}
 use Rattle.ld_num.proofs.Nearest.{millionths_right, nearest-cancel, nearest-one, tens}
 use Rattle.ld_num.proofs.Scanned.{plain_end, pointed_end}
@@ -75,12 +75,12 @@ trimmed_value xs =
 
 -- ---- a size
 
-made_end : (ws fs : List ℕ) → 0 < length ws → made ws fs [] ≡ Some (record { whole = ws; fraction = fs; raised = 0; lowered = 0 })
+made_end : (ws fs : List ℕ) → 0 < length ws → numeral_in ws fs [] ≡ Some (record { whole = ws; fraction = fs; raised = 0; lowered = 0 })
 unfolding powers_of
 made_end ws fs h =
     let some : nat_lt 0 (length ws + length fs) ≡ true = lt-ltb 0 _ (omega arith) in rw some refl
 
-with_fraction : (ws fs : List ℕ) → AllDigits 10 ws → AllDigits 10 fs → numeral_of (ws ++ after_period fs) ≡ made ws fs []
+with_fraction : (ws fs : List ℕ) → AllDigits 10 ws → AllDigits 10 fs → numeral_of (ws ++ after_period fs) ≡ numeral_in ws fs []
 with_fraction ws [] w f = plain_end ws w
 with_fraction ws (d ∷ ds) w f =
     let e = pointed_end ws 46 (d ∷ ds) w f refl in rw append-nil at e
@@ -119,7 +119,7 @@ unsigned (b ∷ ws) rest w h =
     let plus : (b == 43) ≡ false = grind (arith, nat_tests) in (rw (plus, minus) refl, minus)
 
 pub dec_again : (z : ℤ) → unsigned_abs z ≤ 10 ^ 12 → dec_of (dec_text z) ≡ Ok z
-unfolding dec_of dec_text
+unfolding dec_of dec_text millionths_of
 dec_again (pos size) h =
     let again = size_again size h in
     let numeral = decimal_is_IsNumeral (size / 10 ^ 6) (omega arith) in

@@ -11,7 +11,7 @@ use Rattle.std.proofs.lemmas.Bool.Decides.{nat_tests}
 use Rattle.std.proofs.lemmas.List.{length-append, take-append-drop}
 use Rattle.std.proofs.lemmas.Str.Parse.{digit_from_value}
 use Rattle.ld_num.specs.Number.{Numeral, exponent_part, fraction_part, is_mark, is_period, numeral_from, numeral_of, powers_of, whole_part}
-use Rattle.ld_num.specs.Scan.{after_digits, after_fraction, leading_digits, leading_fraction, made}
+use Rattle.ld_num.specs.Scan.{after_digits, after_fraction, leading_digits, leading_fraction, numeral_in}
 use Rattle.ld_num.proofs.Cut.{Fails, fails-append, before-fails, after-fails, from-fails, before-passes, after-passes, from-passes}
 use Rattle.ld_num.proofs.Values.{all_digits-append, leading_digits_are, own}
 
@@ -48,7 +48,7 @@ same_none : (b : Bool) → let x : Option Numeral = None in cond b x None ≡ No
 same_none true = refl
 same_none false = refl
 
-from_parts : (text whole fraction rest : List ℕ) → whole_part text ≡ whole → fraction_part text ≡ fraction → exponent_part text ≡ rest → AllDigits 10 whole → AllDigits 10 fraction → numeral_of text ≡ made whole fraction rest
+from_parts : (text whole fraction rest : List ℕ) → whole_part text ≡ whole → fraction_part text ≡ fraction → exponent_part text ≡ rest → AllDigits 10 whole → AllDigits 10 fraction → numeral_of text ≡ numeral_in whole fraction rest
 unfolding numeral_of
 from_parts text whole fraction rest w f e ws fs =
     let digits = whole ++ fraction in
@@ -60,13 +60,13 @@ unfolding numeral_of
 none text whole fraction w f h =
     rw (w, f) (refused (nat_lt 0 (length (whole ++ fraction))) (all_ascii_digits (whole ++ fraction)) (option_map (numeral_from whole fraction) (powers_of (exponent_part text))) h)
 
-made_none : (whole fraction : List ℕ) (b : ℕ) (rest : List ℕ) → is_mark b ≡ false → made whole fraction (b ∷ rest) ≡ None
+made_none : (whole fraction : List ℕ) (b : ℕ) (rest : List ℕ) → is_mark b ≡ false → numeral_in whole fraction (b ∷ rest) ≡ None
 unfolding powers_of
 made_none whole fraction b rest h = rw h (same_none (nat_lt 0 (length whole + length fraction)))
 
 -- ---- no period
 
-pub plain_end : (ws : List ℕ) → AllDigits 10 ws → numeral_of (ws ++ []) ≡ made ws [] []
+pub plain_end : (ws : List ℕ) → AllDigits 10 ws → numeral_of (ws ++ []) ≡ numeral_in ws [] []
 plain_end ws h =
     let m = digits_no_marks ws h in
     let p = digits_no_periods ws h in
@@ -75,7 +75,7 @@ plain_end ws h =
     (rw (before-fails is_mark ws [] m) (after-fails is_period ws [] p))
     (from-fails is_mark ws [] m) h tt
 
-plain_mark : (ws : List ℕ) (b : ℕ) (rest : List ℕ) → AllDigits 10 ws → is_mark b ≡ true → numeral_of (ws ++ b ∷ rest) ≡ made ws [] (b ∷ rest)
+plain_mark : (ws : List ℕ) (b : ℕ) (rest : List ℕ) → AllDigits 10 ws → is_mark b ≡ true → numeral_of (ws ++ b ∷ rest) ≡ numeral_in ws [] (b ∷ rest)
 plain_mark ws b rest h mark =
     let m = digits_no_marks ws h in
     let p = digits_no_periods ws h in
@@ -85,7 +85,7 @@ plain_mark ws b rest h mark =
     (rw front (after-fails is_period ws [] p))
     (from-fails is_mark ws (b ∷ rest) m ∙ from-passes is_mark b rest mark) h tt
 
-plain_stranger : (ws : List ℕ) (b : ℕ) (rest : List ℕ) → AllDigits 10 ws → is_ascii_digit b ≡ false → is_period b ≡ false → is_mark b ≡ false → numeral_of (ws ++ b ∷ rest) ≡ made ws [] (b ∷ rest)
+plain_stranger : (ws : List ℕ) (b : ℕ) (rest : List ℕ) → AllDigits 10 ws → is_ascii_digit b ≡ false → is_period b ≡ false → is_mark b ≡ false → numeral_of (ws ++ b ∷ rest) ≡ numeral_in ws [] (b ∷ rest)
 plain_stranger ws b rest h digit period mark =
     let m = digits_no_marks ws h in
     let p = digits_no_periods ws h in
@@ -117,17 +117,17 @@ pointed ws b fs rest h g period =
       exponent = rw e (from-fails is_mark (ws ++ b ∷ fs) rest m);
     }
 
-pub pointed_end : (ws : List ℕ) (b : ℕ) (fs : List ℕ) → AllDigits 10 ws → AllDigits 10 fs → is_period b ≡ true → numeral_of (ws ++ b ∷ (fs ++ [])) ≡ made ws fs []
+pub pointed_end : (ws : List ℕ) (b : ℕ) (fs : List ℕ) → AllDigits 10 ws → AllDigits 10 fs → is_period b ≡ true → numeral_of (ws ++ b ∷ (fs ++ [])) ≡ numeral_in ws fs []
 pointed_end ws b fs h g period =
     let p = pointed ws b fs [] h g period in
     from_parts (ws ++ b ∷ (fs ++ [])) ws fs [] p.whole (p.fraction ∙ append-nil fs) p.exponent h g
 
-pointed_mark : (ws : List ℕ) (b : ℕ) (fs : List ℕ) (x : ℕ) (rest : List ℕ) → AllDigits 10 ws → AllDigits 10 fs → is_period b ≡ true → is_mark x ≡ true → numeral_of (ws ++ b ∷ (fs ++ x ∷ rest)) ≡ made ws fs (x ∷ rest)
+pointed_mark : (ws : List ℕ) (b : ℕ) (fs : List ℕ) (x : ℕ) (rest : List ℕ) → AllDigits 10 ws → AllDigits 10 fs → is_period b ≡ true → is_mark x ≡ true → numeral_of (ws ++ b ∷ (fs ++ x ∷ rest)) ≡ numeral_in ws fs (x ∷ rest)
 pointed_mark ws b fs x rest h g period mark =
     let p = pointed ws b fs (x ∷ rest) h g period in
     from_parts (ws ++ b ∷ (fs ++ x ∷ rest)) ws fs (x ∷ rest) p.whole (p.fraction ∙ ap (λ xs. fs ++ xs) (before-passes is_mark x rest mark) ∙ append-nil fs) (p.exponent ∙ from-passes is_mark x rest mark) h g
 
-pointed_stranger : (ws : List ℕ) (b : ℕ) (fs : List ℕ) (x : ℕ) (rest : List ℕ) → AllDigits 10 ws → AllDigits 10 fs → is_period b ≡ true → is_ascii_digit x ≡ false → is_mark x ≡ false → numeral_of (ws ++ b ∷ (fs ++ x ∷ rest)) ≡ made ws fs (x ∷ rest)
+pointed_stranger : (ws : List ℕ) (b : ℕ) (fs : List ℕ) (x : ℕ) (rest : List ℕ) → AllDigits 10 ws → AllDigits 10 fs → is_period b ≡ true → is_ascii_digit x ≡ false → is_mark x ≡ false → numeral_of (ws ++ b ∷ (fs ++ x ∷ rest)) ≡ numeral_in ws fs (x ∷ rest)
 pointed_stranger ws b fs x rest h g period digit mark =
     let p = pointed ws b fs (x ∷ rest) h g period in
     let rest' = before_first is_mark rest in
@@ -149,24 +149,24 @@ ends_after_digits (b ∷ rest) =
     let next : 1 + n ≡ suc n = omega arith in
     cond_both (is_ascii_digit b) (1 + n) 0 (λ k. Ends (drop k (b ∷ rest))) (λ digit. rw next (ends_after_digits rest)) (λ digit. digit)
 
-pointed_rest : (ws : List ℕ) (b : ℕ) (fs rest : List ℕ) → AllDigits 10 ws → AllDigits 10 fs → is_period b ≡ true → Ends rest → numeral_of (ws ++ b ∷ (fs ++ rest)) ≡ made ws fs rest
+pointed_rest : (ws : List ℕ) (b : ℕ) (fs rest : List ℕ) → AllDigits 10 ws → AllDigits 10 fs → is_period b ≡ true → Ends rest → numeral_of (ws ++ b ∷ (fs ++ rest)) ≡ numeral_in ws fs rest
 pointed_rest ws b fs [] h g period ends = pointed_end ws b fs h g period
 pointed_rest ws b fs (x ∷ rest) h g period ends =
     ⊎_elim (pointed_mark ws b fs x rest h g period) (pointed_stranger ws b fs x rest h g period ends) (cases_Bool (is_mark x))
 
 abbrev met : List ℕ → List ℕ → Option Numeral
-met ws rest = made ws (leading_fraction rest) (after_fraction rest)
+met ws rest = numeral_in ws (leading_fraction rest) (after_fraction rest)
 
 from_front : (ws rest : List ℕ) → AllDigits 10 ws → Ends rest → numeral_of (ws ++ rest) ≡ met ws rest
 from_front ws [] h ends = plain_end ws h
 from_front ws (b ∷ rest) h ends =
     ⊎_elim
-    (λ period. rw period (subst (λ xs. numeral_of (ws ++ b ∷ xs) ≡ made ws (leading_digits rest) (after_digits rest)) (take-append-drop (prefix_len is_ascii_digit rest) rest)
+    (λ period. rw period (subst (λ xs. numeral_of (ws ++ b ∷ xs) ≡ numeral_in ws (leading_digits rest) (after_digits rest)) (take-append-drop (prefix_len is_ascii_digit rest) rest)
     (pointed_rest ws b (leading_digits rest) (after_digits rest) h (leading_digits_are rest) period (ends_after_digits rest))))
     (λ other. rw other (⊎_elim (plain_mark ws b rest h) (plain_stranger ws b rest h ends other) (cases_Bool (is_mark b))))
     (cases_Bool (is_period b))
 
-pub scanned : (text : List ℕ) → numeral_of text ≡ made (leading_digits text) (leading_fraction (after_digits text)) (after_fraction (after_digits text))
+pub scanned : (text : List ℕ) → numeral_of text ≡ numeral_in (leading_digits text) (leading_fraction (after_digits text)) (after_fraction (after_digits text))
 scanned text =
     subst (λ xs. numeral_of xs ≡ met (leading_digits text) (after_digits text)) (take-append-drop (prefix_len is_ascii_digit text) text)
     (from_front (leading_digits text) (after_digits text) (leading_digits_are text) (ends_after_digits text))

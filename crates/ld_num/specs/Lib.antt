@@ -1,3 +1,5 @@
+pub mod Examples
 pub mod Number
+pub mod Placing
 pub mod Scan
 pub mod Text

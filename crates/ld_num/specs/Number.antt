@@ -1,6 +1,6 @@
 -- What a numeral is, and which number of millionths it writes. File Format 1.0.2 ("Line Types") leaves the form of
 -- numbers open; numerals with exponents, millionths and their rounding are this project's own.
-use Rattle.std.specs.Prelude.{ℕ, ◌+◌, ◌*◌, ◌/◌, ◌^◌, Bool, false, ◌&&◌, ◌||◌, ◌==◌, nat_le, nat_lt, if◌then◌else◌, List, [], ◌∷◌, ◌++◌, length, drop, ℤ, pos, neg_ℤ, Option, Some, None, Result, Ok, Err}
+use Rattle.std.specs.Prelude.{ℕ, ◌+◌, ◌*◌, ◌/◌, ◌^◌, Bool, false, ◌&&◌, ◌||◌, ◌==◌, nat_le, nat_lt, if◌then◌else◌, List, [], ◌∷◌, ◌++◌, length, drop, ℤ, pos, neg_ℤ, unsigned_abs, Option, Some, None, Result, Ok, Err}
 use Rattle.std.specs.List.{before_first, after_first, position_or_len}
 use Rattle.std.specs.Option.{option_map}
 use Rattle.std.specs.Str.{all_ascii_digits}
@@ -81,22 +81,34 @@ denominator n = 10 ^ (length n.fraction + n.lowered)
 abbrev pub nearest : ℕ → ℕ → ℕ
 nearest p q = (2 * p + q) / (2 * q)
 
-unfoldable pub millionths_of : Numeral → ℕ
-millionths_of n = nearest (10 ^ 6 * numerator n) (denominator n)
+-- the size p / q in whole millionths
+abbrev pub in_millionths : ℕ → ℕ → ℕ
+in_millionths p q = nearest (10 ^ 6 * p) q
 
 -- the number of that size, which is never a negative zero
 abbrev pub signed_of : Bool → ℕ → ℤ
 signed_of is_negative size = if is_negative then neg_ℤ (pos size) else pos size
 
--- the number, where its size is in range
-abbrev pub in_range : Bool → ℕ → Result ℤ NumError
-in_range is_negative size =
-    if nat_le size (10 ^ 12) then Ok (signed_of is_negative size) else Err OutOfRange
+-- the fraction of that sign and of the size p / q, as the nearest whole number of millionths: of two equally near ones
+-- that of greater size
+abbrev pub fix : Bool → ℕ → ℕ → ℤ
+fix is_negative p q = signed_of is_negative (in_millionths p q)
+
+-- the size of the number that a numeral writes
+unfoldable pub millionths_of : Numeral → ℕ
+millionths_of n = in_millionths (numerator n) (denominator n)
+
+-- a size of at most a million
+abbrev pub is_in_range : ℤ → Bool
+is_in_range value = nat_le (unsigned_abs value) (10 ^ 12)
+
+abbrev pub if_in_range : ℤ → Result ℤ NumError
+if_in_range value = if is_in_range value then Ok value else Err OutOfRange
 
 -- what is read of a sign and of a numeral after it
 abbrev pub signed_dec_of : Bool → Option Numeral → Result ℤ NumError
 signed_dec_of is_negative None = Err NotANumber
-signed_dec_of is_negative (Some n) = in_range is_negative (millionths_of n)
+signed_dec_of is_negative (Some n) = if_in_range (fix is_negative (numerator n) (denominator n))
 
 -- what is read of a text
 unfoldable pub dec_of : List ℕ → Result ℤ NumError

@@ -4,12 +4,14 @@
 mod dec;
 mod digits;
 mod numeral;
+mod placing;
 mod point;
 mod print;
 mod read;
 mod scale;
 
 pub use dec::{Dec, NumError};
+pub use placing::{mirrored, place};
 pub use point::{Placement, Point};
 pub use print::print_dec;
 pub use read::read_dec;

@@ -4,7 +4,7 @@ ghost use Rattle.std.specs.Option.{option_map};
 ghost use Rattle.std.specs.Str.{all_ascii_digits};
 ghost use Rattle.std.specs.Str.Parse.{AllDigits, digits_value};
 ghost use Rattle.ld_num.specs.Number.{begins_with_minus, is_power, millionths_of, numeral_of, powers_of, without_sign};
-ghost use Rattle.ld_num.specs.Scan.{after_digits, after_fraction, leading_digits, leading_fraction, made};
+ghost use Rattle.ld_num.specs.Scan.{after_digits, after_fraction, leading_digits, leading_fraction, numeral_in};
 
 use crate::digits::{TOO_LARGE, capped, digit_count};
 use crate::scale::scaled;
@@ -24,7 +24,7 @@ pub(crate) fn size_of(text: &[u8]) -> Option<u64>
 // The digits before a period, those after it, and what follows them.
 #[tactic(auto, using(crate::proofs::Scanned::scanned))]
 fn split_parts(text: &[u8]) -> (&[u8], &[u8], &[u8])
-    ensures parts { numeral_of text.now ≡ made result.0.now result.1.now result.2.now }
+    ensures parts { numeral_of text.now ≡ numeral_in result.0.now result.1.now result.2.now }
     ensures whole { AllDigits 10 result.0.now }
     ensures fraction { AllDigits 10 result.1.now }
 {

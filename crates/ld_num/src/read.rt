@@ -1,5 +1,6 @@
 ghost use Rattle.std.specs.Prelude.{◌≡◌};
-ghost use Rattle.ld_num.specs.Number.{dec_of, in_range};
+ghost use Rattle.ld_num.specs.Number.{dec_of};
+ghost use Rattle.ld_num.specs.Scan.{in_range};
 
 use crate::digits::MAX_SIZE;
 use crate::numeral::{size_of, split_sign};
@@ -11,7 +12,7 @@ use crate::{Dec, NumError};
 /// The number is the nearest whole number of millionths, and of two equally near ones that of greater size.
 /// `NotANumber` comes exactly where the bytes are no numeral, and `OutOfRange` exactly where they are one and the
 /// rounded size is above 10^12 millionths.
-#[tactic(auto, unfolding(crate::specs::Number::dec_of))]
+#[tactic(auto, using(crate::proofs::Sizes::in_range_is), unfolding(crate::specs::Number::dec_of, crate::specs::Number::millionths_of))]
 pub fn read_dec(text: &[u8]) -> Result<Dec, NumError>
     ensures { result ≡ dec_of text.now }
 {

@@ -1,11 +1,13 @@
-ghost use Rattle.std.specs.Prelude.{◌≡◌, Ok, Err, pos, negsuc, codes};
+ghost use Rattle.std.specs.Prelude.{◌≡◌, true, false, Some, None, Ok, Err, pos, negsuc, codes};
+ghost use Rattle.ld_num.specs.Examples.{at, enlarged, origin};
 ghost use Rattle.ld_num.specs.Number.{dec_of};
+ghost use Rattle.ld_num.specs.Placing.{is_mirrored, moved};
 
 use super::*;
 use std::alloc::{AllocError, Global};
 
 // The definitions compute.
-#[tactic(auto, unfolding(crate::specs::Number::dec_of, crate::specs::Number::numeral_of, crate::specs::Number::powers_of, crate::specs::Number::millionths_of))]
+#[tactic(auto, unfolding(crate::specs::Number::dec_of, crate::specs::Number::numeral_of, crate::specs::Number::powers_of))]
 fn numerals_compute()
     ensures tie { dec_of (codes "1.0000005") ≡ Ok (pos 1000001) }
     ensures negative { dec_of (codes "-.5") ≡ Ok (negsuc 499999) }
@@ -17,6 +19,21 @@ fn numerals_compute()
     ensures two_periods { dec_of (codes "1.2.3") ≡ Err NumError.NotANumber }
     ensures no_exponent { dec_of (codes "1e+") ≡ Err NumError.NotANumber }
     ensures long_exponent { dec_of (codes "1e1234") ≡ Err NumError.NotANumber }
+{}
+
+// Placements by the definition: a point through two references, each of which rounds; ties; a matrix of zeros; the range.
+#[tactic(auto, unfolding(crate::specs::Placing::moved, crate::specs::Placing::is_mirrored))]
+fn placements_compute()
+    ensures inner { moved (enlarged origin (pos 333333)) (at (pos 1000000) (pos 1000001) (pos 1500000)) ≡ Some (at (pos 333333) (pos 333333) (pos 500000)) }
+    ensures outer { moved (enlarged origin (pos 1500000)) (at (pos 333333) (pos 333333) (pos 0)) ≡ Some (at (pos 500000) (pos 500000) (pos 0)) }
+    ensures ties { moved (enlarged origin (pos 500000)) (at (pos 1) (negsuc 0) (pos 3)) ≡ Some (at (pos 1) (negsuc 0) (pos 2)) }
+    ensures no_negative_zero { moved (enlarged origin (pos 499999)) (at (negsuc 0) (pos 1) (negsuc 0)) ≡ Some origin }
+    ensures tie_past_offset { moved (enlarged (at (pos 1) (negsuc 0) (pos 0)) (pos 500000)) (at (negsuc 2) (pos 1) (pos 0)) ≡ Some (at (negsuc 0) (negsuc 0) (pos 0)) }
+    ensures zeros { moved (enlarged (at (pos 1000000) (pos 2000000) (pos 3000000)) (pos 0)) (at (pos 5000000) (pos 0) (pos 0)) ≡ Some (at (pos 1000000) (pos 2000000) (pos 3000000)) }
+    ensures greatest { moved (enlarged origin (pos 1000000)) (at (pos 1000000000000) (negsuc 999999999999) (pos 0)) ≡ Some (at (pos 1000000000000) (negsuc 999999999999) (pos 0)) }
+    ensures out_of_range { moved (enlarged (at (pos 0) (pos 0) (negsuc 0)) (pos 1000000)) (at (pos 0) (pos 0) (negsuc 999999999999)) ≡ None }
+    ensures mirrored { is_mirrored (enlarged origin (negsuc 999999)) ≡ true }
+    ensures flat { is_mirrored (enlarged origin (pos 0)) ≡ false }
 {}
 
 // What is read of a text, as it is printed.
