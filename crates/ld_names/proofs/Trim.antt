@@ -1,8 +1,10 @@
 -- Trimming a text from its end, and trimming what is trimmed.
-use Rattle.std.proofs.Common.{◌≡◌, ◌≤◌, ◌==◌, ℕ, length, nat_lt, Bool, true, false, List, [], ◌∷◌, ◌++◌, cond, map, refl, ap, sym, ◌∙◌, tests, arith, Ok}
+use Rattle.std.proofs.Common.{◌≡◌, ◌≢◌, ◌≤◌, ◌==◌, ℕ, length, nat_lt, Bool, true, false, List, [], ◌∷◌, ◌++◌, cond, map, refl, ap, sym, ◌∙◌, tests, arith, Ok, Err}
+use Rattle.ld_names.specs.declared.name.NameError.TheVariants.{Control}
+use Rattle.ld_names.proofs.Lower.{control-lower}
 use Rattle.std.proofs.lemmas.List.{length-map}
 use Rattle.std.specs.List.{list_any}
-use Rattle.ld_names.specs.Normal.{is_blank, onto_trimmed, trim_end, trim_start, trim, lower, normal_of, checked, is_relative, is_control}
+use Rattle.ld_names.specs.Normal.{IsName, is_blank, onto_trimmed, trim_end, trim_start, trim, lower, normal_of, checked, is_relative, is_control}
 
 onto_trimmed_some : (x : ℕ) (xs : List ℕ) (y : ℕ) → onto_trimmed x (xs ++ y ∷ []) ≡ x ∷ xs ++ y ∷ []
 onto_trimmed_some x [] y = refl
@@ -80,12 +82,40 @@ normal_of-again text name is =
     let same : map lower (trim text) ≡ name = checked-same _ _ is in
     ap (λ xs. checked (map lower (trim xs))) (sym same) ∙ ap checked (lowered-same text) ∙ is
 
--- a text that passes each test, trimmed and lowered, is its own normal form
-pub normal_of-passed : (text name : List ℕ) → map lower (trim text) ≡ name → (length (trim text) == 0) ≡ false → length (trim text) ≤ 255 → is_relative name ≡ true → list_any is_control name ≡ false → normal_of name ≡ Ok name
+-- the normal form of a text that is relative once it is trimmed and lowered
+pub normal_of-relative : (text trimmed : List ℕ) → trimmed ≡ trim text → (length trimmed == 0) ≡ false → length trimmed ≤ 255 → is_relative (map lower trimmed) ≡ true → normal_of text ≡ cond (list_any is_control trimmed) (Err Control) (Ok (map lower trimmed))
 unfolding normal_of
-normal_of-passed text name is some short relative plain =
-    let same : length name ≡ length (trim text) = ap length (sym is) ∙ length-map (trim text) lower in
-    let some' : (length name == 0) ≡ false = ap (λ n. n == 0) same ∙ some in
-    let short' : nat_lt 255 (length name) ≡ false = grind (arith, tests) in
-    let fits : checked name ≡ Ok name = rw some' (rw short' (rw relative (rw plain refl))) in
-    normal_of-again text name (ap checked is ∙ fits)
+normal_of-relative text trimmed is some short relative =
+    let same : length (map lower trimmed) ≡ length trimmed = length-map trimmed lower in
+    let some' : (length (map lower trimmed) == 0) ≡ false = ap (λ n. n == 0) same ∙ some in
+    let short' : nat_lt 255 (length (map lower trimmed)) ≡ false = grind (arith, tests) in
+    let fits : checked (map lower trimmed) ≡ cond (list_any is_control trimmed) (Err Control) (Ok (map lower trimmed)) = rw some' (rw short' (rw relative (rw (control-lower trimmed) refl))) in
+    ap (λ xs. checked (map lower xs)) (sym is) ∙ fits
+
+-- what a text that passes each test says of itself
+record Passed (name : List ℕ) : Type 0 where
+  some : name ≢ []
+  short : length name ≤ 255
+  relative : is_relative name ≡ true
+  plain : list_any is_control name ≡ false
+
+checked-passed : (name : List ℕ) → checked name ≡ Ok name → Passed name
+checked-passed name is = record { some = λ empty. grind (arith, tests); short = grind (arith, tests); relative = grind (arith, tests); plain = grind (arith, tests) }
+
+trimmed-lower : (xs : List ℕ) → trim_end (map lower (trim_end xs)) ≡ map lower (trim_end xs)
+trimmed-lower xs = trim_end-lower (trim_end xs) ∙ ap (map lower) (trim_end-trim_end xs)
+
+pub name-is : (name : List ℕ) → normal_of name ≡ Ok name → IsName name
+unfolding normal_of
+name-is name is =
+    let same : map lower (trim name) ≡ name = checked-same _ _ is in
+    let passed : Passed name = checked-passed name (ap checked (sym same) ∙ is) in
+    record {
+      some = passed.some;
+      short = passed.short;
+      relative = passed.relative;
+      plain = passed.plain;
+      start = ap trim_start (sym same) ∙ trim_start-lower (trim name) ∙ ap (map lower) (trim_start-trim name) ∙ same;
+      end = ap trim_end (sym same) ∙ trimmed-lower (trim_start name) ∙ same;
+      lowered = ap (map lower) (sym same) ∙ lowered-again (trim name) ∙ same;
+    }

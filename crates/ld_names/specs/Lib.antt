@@ -1,2 +1,3 @@
 pub mod Normal
 pub mod Standing
+pub mod Finding

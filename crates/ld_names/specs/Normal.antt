@@ -1,6 +1,7 @@
 -- The normal form of file names, which is this project's own. File Format 1.0.2 ("Line Type 1") has blanks
 -- around a name ignored, and writes `\` between folders.
-use Rattle.std.specs.Prelude.{◌≡◌, ◌==◌, ◌&&◌, ◌||◌, ℕ, Bool, false, not, List, [], ◌∷◌, length, map, Result, Ok, Err, if◌then◌else◌, nat_lt, nat_le, bytes_eq, codes, ⊤}
+use Rattle.std.specs.Prelude.{◌≡◌, ◌≢◌, ◌≤◌, ◌==◌, ◌&&◌, ◌||◌, ℕ, Bool, false, true, not, List, [], ◌∷◌, length, map, Result, Ok, Err, if◌then◌else◌, nat_lt, nat_le, bytes_eq, codes}
+use Rattle.std.specs.Result.{IsOk}
 use Rattle.std.specs.Char.{to_ascii_lowercase}
 use Rattle.std.specs.List.{list_any, slice_split}
 use Rattle.ld_names.specs.declared.name.NameError.{NameError}
@@ -58,7 +59,22 @@ checked name = if length name == 0 then Err Empty else if nat_lt 255 (length nam
 unfoldable pub normal_of : List ℕ → Result (List ℕ) NameError
 normal_of text = checked (map lower (trim text))
 
--- what was answered is what is wanted, unless memory was lacking
+-- what was answered is what is wanted; memory is lacking only where a name is wanted
 abbrev pub GivesName : Result (List ℕ) NameError → Result (List ℕ) NameError → Type 0
-GivesName (Err Memory) wanted = ⊤
+GivesName (Err Memory) wanted = IsOk wanted
 GivesName result wanted = result ≡ wanted
+
+-- a name is 1 to 255 bytes without a control character, a blank at either end or a capital, and names its own components
+pub record IsName (name : List ℕ) : Type 0 where
+  pub some : name ≢ []
+  pub short : length name ≤ 255
+  pub relative : is_relative name ≡ true
+  pub plain : list_any is_control name ≡ false
+  pub start : trim_start name ≡ name
+  pub end : trim_end name ≡ name
+  pub lowered : map lower name ≡ name
+
+-- the normal form of a text is its own, and such a text is a name
+pub record AreNames : Type 0 where
+  pub again : (text name : List ℕ) → normal_of text ≡ Ok name → normal_of name ≡ Ok name
+  pub names : (name : List ℕ) → normal_of name ≡ Ok name → IsName name

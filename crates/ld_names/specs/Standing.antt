@@ -1,6 +1,7 @@
 -- Which texts stand, and which file a reference finds. File Format 1.0.2 ("Line Type 1") names the library's
 -- folders; their order is this project's own.
-use Rattle.std.specs.Prelude.{◌≡◌, ◌≢◌, ◌==◌, ◌&&◌, ℕ, Bool, List, [], ◌∷◌, ◌++◌, Option, Some, None, bytes_eq, unwrap_or, if◌then◌else◌}
+use Rattle.std.specs.Prelude.{◌==◌, ◌&&◌, ℕ, Bool, List, [], ◌∷◌, Option, Some, None, bytes_eq, unwrap_or}
+use Rattle.std.specs.Map.{lookup}
 use Rattle.std.specs.Ordering.{nat_cmp, on, then_cmp}
 use Rattle.std.specs.declared.cmp.Ordering.{Ordering}
 use Rattle.std.specs.Cmp.Lexicographic.{slice_cmp}
@@ -9,7 +10,7 @@ use Rattle.ld_names.specs.declared.file.Folder.{Folder}
 use Rattle.ld_names.specs.declared.file.Folder.TheVariants.{Model, Parts, P}
 
 -- the folders in which a file that a file of this folder refers to is looked for, in order
-abbrev pub folders_of : Folder → List Folder
+unfoldable pub folders_of : Folder → List Folder
 folders_of Model = Model ∷ Parts ∷ P ∷ []
 folders_of Parts = Parts ∷ P ∷ []
 folders_of P = Parts ∷ P ∷ []
@@ -21,12 +22,16 @@ folder_place Parts = 1
 folder_place P = 2
 
 -- a file is the other where its folder and the bytes of its name are
-abbrev pub same_file : FileId → FileId → Bool
+unfoldable pub same_file : FileId → FileId → Bool
 same_file file other = folder_place file.folder == folder_place other.folder && bytes_eq file.name other.name
 
 -- files by folder, and then by the bytes of their names
-abbrev pub file_cmp : FileId → FileId → Ordering
+unfoldable pub file_cmp : FileId → FileId → Ordering
 file_cmp = then_cmp (on (λ file. folder_place file.folder) nat_cmp) (on (λ file. file.name) (slice_cmp nat_cmp))
+
+-- the file of a name in a folder
+abbrev pub file_in : Folder → List ℕ → FileId
+file_in folder name = record { folder = folder; name = name }
 
 -- the lines of a file that is there, or none of one that is known to be absent
 abbrev pub Text : Type 0
@@ -41,12 +46,11 @@ abbrev pub Known : Type 0
 Known = List (FileId × Text)
 
 -- what the known files say of each file
-abbrev pub known_map : Known → Map
-known_map [] file = None
-known_map (first ∷ known) file = if same_file file first.0 then Some first.1 else known_map known file
+unfoldable pub known_map : Known → Map
+known_map known file = lookup (same_file file) known
 
 -- the texts as they stand: what is known, and for every other file what the shelf has
-abbrev pub standing : Map → (FileId → Text) → Map
+unfoldable pub standing : Map → (FileId → Text) → Map
 standing known shelf file = Some (unwrap_or (known file) (shelf file))
 
 -- what looking up a name gives
@@ -55,20 +59,17 @@ pub data Found : Type 0 where
   Absent : Found
   Unknown : Folder → Found
 
+-- what a look-up gives by what is known of the file in hand, and by what the folders behind give
+abbrev pub found_or : FileId → Found → Option Text → Found
+found_or file behind None = Unknown file.folder
+found_or file behind (Some None) = behind
+found_or file behind (Some (Some lines)) = Present file
+
 -- the first of the folders that has the file, where each one before it is known to lack it
 abbrev pub find_among : Map → List ℕ → List Folder → Found
 find_among known name [] = Absent
-find_among known name (folder ∷ folders) =
-    elim (known (record { folder = folder; name = name })) [ None ↦ Unknown folder | Some text ↦ elim text [ None ↦ find_among known name folders | Some lines ↦ Present (record { folder = folder; name = name }) ] ]
+find_among known name (folder ∷ folders) = found_or (file_in folder name) (find_among known name folders) (known (file_in folder name))
 
 -- the file that a reference by this name finds, from a file of the folder
-abbrev pub find : Map → Folder → List ℕ → Found
+unfoldable pub find : Map → Folder → List ℕ → Found
 find known from name = find_among known name (folders_of from)
-
--- over the standing texts nothing is unknown
-abbrev pub NothingUnknown : Type 0
-NothingUnknown = (known : Map) (shelf : FileId → Text) (from : Folder) (name : List ℕ) (folder : Folder) → find (standing known shelf) from name ≢ Unknown folder
-
--- learning a file, with what the shelf has of it, leaves the texts as they stand
-abbrev pub LearningStays : Type 0
-LearningStays = (known : Known) (shelf : FileId → Text) (learnt file : FileId) → known_map known learnt ≡ None → standing (known_map (known ++ (learnt, shelf learnt) ∷ [])) shelf file ≡ standing (known_map known) shelf file

@@ -1,4 +1,4 @@
-ghost use Rattle.std.specs.Prelude.{◌≡◌, ◌-◌, IfOk, drop, length, replicate, take};
+ghost use Rattle.std.specs.Prelude.{◌≡◌, ◌≤◌, ◌-◌, IfOk, drop, length, replicate, take};
 ghost use Rattle.ld_names.specs.Standing.{folders_of};
 
 use crate::name::Name;
@@ -44,7 +44,9 @@ pub struct Folders {
 
 /// The folders in which a file that a file of this folder refers to is looked for. What stands
 /// behind the last one is `P`.
+#[tactic(auto, unfolding(crate::specs::Standing::folders_of))]
 pub fn order(from: Folder) -> Folders
+    ensures within { result.count ≤ 3 }
     ensures count { result.count ≡ length (folders_of from) }
     ensures folders { take result.count result.list ≡ folders_of from }
     ensures behind { drop result.count result.list ≡ replicate (3 - result.count) Folder.P }

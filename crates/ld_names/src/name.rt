@@ -70,13 +70,13 @@ pub fn normal(alloc: Global, text: &[u8]) -> Result<Name, NameError>
     if text.len() > 255 {
         return Err(NameError::TooLong);
     }
-    let bytes = lowered(alloc, text)?;
-    if !relative(bytes.as_slice()) {
+    if !relative(text) {
         return Err(NameError::NotRelative);
     }
-    if controlled(bytes.as_slice()) {
+    if controlled(text) {
         return Err(NameError::Control);
     }
+    let bytes = lowered(alloc, text)?;
     Ok(Name {
         bytes: List::from_vec(bytes),
     })
@@ -137,8 +137,9 @@ fn lowered_byte(byte: u8) -> u8
     }
 }
 
+// Of a name that is not lowered yet: whether it is relative then.
 fn relative(name: &[u8]) -> bool
-    ensures { result ≡ is_relative name.now }
+    ensures { result ≡ is_relative (map lower name.now) }
 {
     !drive(name) && !steps(name)
 }
@@ -150,15 +151,16 @@ fn controlled(name: &[u8]) -> bool
 }
 
 fn drive(name: &[u8]) -> bool
-    ensures { result ≡ has_drive name.now }
+    ensures { result ≡ has_drive (map lower name.now) }
 {
-    matches!(name, [b'a'..=b'z', b':', ..])
+    matches!(name, [b'a'..=b'z' | b'A'..=b'Z', b':', ..])
 }
 
 fn steps(name: &[u8]) -> bool
-    ensures { result ≡ list_any is_step (slice_split (λ byte. byte == 47) name.now) }
+    ensures { result ≡ list_any is_step (slice_split (λ byte. byte == 47) (map lower name.now)) }
 {
-    name.split(|byte| *byte == b'/').any(|part| step(part))
+    name.split(|byte| *byte == b'/' || *byte == b'\\')
+        .any(|part| step(part))
 }
 
 fn step(part: &[u8]) -> bool

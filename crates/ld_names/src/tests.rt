@@ -134,6 +134,7 @@ fn normal_forms_by_definition()
     ensures control { normal_of (97 ∷ 1 ∷ 98 ∷ []) ≡ Err Control }
 {}
 
+#[tactic(auto, unfolding(crate::specs::Standing::find, crate::specs::Standing::known_map, crate::specs::Standing::same_file, crate::specs::Standing::folders_of, crate::specs::Standing::standing))]
 fn lookups_by_definition()
     ensures unknown { find (λ _. None) P (codes "x") ≡ Unknown Parts }
     ensures absent { find (λ _. Some None) Model (codes "x") ≡ Absent }
