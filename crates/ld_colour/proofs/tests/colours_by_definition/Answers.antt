@@ -1,0 +1,7 @@
+use Rattle.std.proofs.Common.{refl}
+use Rattle.ld_colour.specs.Colour.{colour_of}
+use Rattle.ld_colour.proofs.tests.colours_by_definition.Goals as goal
+
+pub returns-clause-words : goal.returns-clause-words
+unfolding colour_of
+returns-clause-words c = refl

@@ -1,0 +1,11 @@
+//! What the colour words of LDraw texts mean, and how colours are inherited: File Format 1.0.2,
+//! "Colours".
+#![tactic(auto)]
+
+mod colour;
+mod laws;
+#[cfg(test)]
+mod tests;
+
+pub use colour::{Colour, colour_of, edge, under};
+pub use laws::{lawful_colours, under_laws};
