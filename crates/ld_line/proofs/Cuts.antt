@@ -1,5 +1,5 @@
 -- Cutting a text at its line feeds, one piece at a time.
-use Rattle.std.proofs.Common.{◌≡◌, ◌<◌, ◌+◌, ℕ, Bool, true, false, List, [], ◌∷◌, ◌++◌, cond, length, take, drop, map, refl, ap, sym, ◌∙◌, arith, tests, append_assoc, ◌==◌, Some, None}
+use Rattle.std.proofs.Common.{◌≡◌, ◌≢◌, ◌<◌, ◌+◌, ℕ, Bool, true, false, List, [], ◌∷◌, ◌++◌, cond, length, take, drop, map, refl, ap, sym, ◌∙◌, arith, tests, append_assoc, ◌==◌, Some, None}
 use Rattle.std.specs.List.{slice_split, onto_first, position_or_len}
 use Rattle.std.specs.Str.Lines.{strip_carriage_return}
 use Rattle.std.proofs.lemmas.List.Splits.{slice_split_none, slice_split_first}
@@ -51,3 +51,14 @@ lines_in-last (x ∷ xs) is some =
 pub lines_in-step : (old new whole : List (List ℕ)) (line xs piece more : List ℕ) → slice_split is_line_feed xs ≡ piece ∷ slice_split is_line_feed more → line ≡ strip_carriage_return piece → new ≡ old ++ line ∷ [] → old ++ lines_in xs ≡ whole → new ++ lines_in more ≡ whole
 lines_in-step old new whole line xs piece more cut is pushed so_far =
     ap (λ ls. ls ++ lines_in more) (pushed ∙ ap (λ l. old ++ l ∷ []) is) ∙ append_assoc old (strip_carriage_return piece ∷ []) (lines_in more) ∙ ap (λ ls. old ++ ls) (sym (lines_in-more xs piece more cut)) ∙ so_far
+
+-- a text with one more line to come has lines
+pub lines_in-some : (old whole : List (List ℕ)) (xs piece more : List ℕ) → slice_split is_line_feed xs ≡ piece ∷ slice_split is_line_feed more → old ++ lines_in xs ≡ whole → whole ≢ []
+lines_in-some [] whole xs piece more cut so_far none = cons_some _ _ (sym (lines_in-more xs piece more cut) ∙ so_far ∙ none)
+  where
+    cons_some : (x : List ℕ) (ls : List (List ℕ)) → x ∷ ls ≢ []
+    cons_some x ls e = cc
+lines_in-some (x ∷ old) whole xs piece more cut so_far none = nil_none (so_far ∙ none)
+  where
+    nil_none : x ∷ (old ++ lines_in xs) ≢ []
+    nil_none e = cc

@@ -1,4 +1,5 @@
 pub mod Cuts
 pub mod Fields
-pub mod Numbers
+pub mod OtherLines
 pub mod Steps
+pub mod Values

@@ -4,7 +4,9 @@
 mod block;
 mod colour;
 mod cut;
+mod digits;
 mod field;
+mod header;
 mod line;
 mod meta;
 mod number;
@@ -15,5 +17,8 @@ mod tests;
 pub use block::block_line;
 pub use colour::read_colour;
 pub use cut::lines_of;
+pub use digits::{read_digits, read_number};
+pub use field::split_field;
+pub use header::header_line;
 pub use line::{Angles, BfcWord, BlockLine, Kind, Line, RotWord, Winding};
 pub use read::read_line;
