@@ -1,6 +1,6 @@
 ghost use Rattle.std.specs.Prelude.{◌≡◌, ◌≢◌, ◌≤◌, IfSome, None, is_some, map, string_bytes};
 ghost use Rattle.ld_io.specs.Faults.{HasRisen};
-ghost use Rattle.ld_io.specs.Files.{file_of};
+ghost use Rattle.ld_io.specs.Files.{file_found};
 ghost use Rattle.ld_cmd.specs.Ending.{EndsAs, IsComplete, Takes, TakesNothing, UsageIsExact};
 ghost use Rattle.ld_cmd.specs.Output.{output};
 ghost use Rattle.ld_cmd.specs.Words.{command_of, usage_line};
@@ -51,7 +51,7 @@ pub fn run_in_memory(
     shelf: &mut SureShelf,
     out: &mut SureSink,
 ) -> Status
-    ensures { let wanted = output (map string_bytes words.now) (file_of shelf.old) in
+    ensures { let wanted = output (map string_bytes words.now) (file_found shelf.old) in
         IsComplete result wanted.status wanted.bytes out.old out.new }
 {
     run(alloc, words, shelf, out)

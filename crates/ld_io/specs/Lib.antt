@@ -6,3 +6,4 @@ pub mod SureShelf
 pub mod MemShelf
 pub mod MemSink
 pub mod OsShelf
+pub mod Whole

@@ -4,7 +4,7 @@ use Rattle.std.specs.List.{list_any}
 use Rattle.ld_io.specs.Faults.{next_count}
 use Rattle.ld_io.specs.Files.{File}
 
-pub record State : Type 0 where
+pub record MemShelfValue : Type 0 where
   pub files : List File
   -- the numbers of the fetches that are to fail
   pub failing : List ℕ
@@ -14,5 +14,5 @@ pub record State : Type 0 where
   pub faults : ℕ
 
 -- the number of the next fetch is listed
-abbrev pub next_fails : State → Bool
+abbrev pub next_fails : MemShelfValue → Bool
 next_fails s = list_any (λ call. call == next_count s.fetches) s.failing

@@ -9,7 +9,7 @@ use Rattle.ld_io.specs.declared.shelf.Fetched.TheVariants.{Absent}
 use Rattle.ld_io.specs.declared.shelf.FetchError.{FetchError}
 use Rattle.ld_io.specs.declared.shelf.FetchError.TheVariants.{Failed, Memory}
 
-pub record State : Type 0 where
+pub record OsShelfValue : Type 0 where
   -- the folder of the library
   pub library : List ℕ
   -- the folder of the model
@@ -21,11 +21,12 @@ pub record State : Type 0 where
 abbrev pub HasNoPath : List ℕ → Type 0
 HasNoPath name = (¬ (IsUtf8 name)) ⊎ Contains name 0
 
-abbrev pub path_of : State → Place → List ℕ → List ℕ
-path_of s Work name = name
-path_of s Model name = s.model ++ codes "/" ++ name
-path_of s Parts name = s.library ++ codes "/parts/" ++ name
-path_of s P name = s.library ++ codes "/p/" ++ name
+-- the path of a name at a place, by the library's folder and the model's
+abbrev pub path_of : List ℕ → List ℕ → Place → List ℕ → List ℕ
+path_of library model Work name = name
+path_of library model Model name = model ++ codes "/" ++ name
+path_of library model Parts name = library ++ codes "/parts/" ++ name
+path_of library model P name = library ++ codes "/p/" ++ name
 
 -- what a fetch answers where the system stopped it: a path at which no file stands is no fault
 abbrev pub stopped_by : ErrorKind → Result Fetched FetchError

@@ -8,6 +8,7 @@
 mod mem_shelf;
 mod mem_sink;
 mod os_shelf;
+mod path;
 mod shelf;
 mod sink;
 mod std_sink;
@@ -15,6 +16,7 @@ mod sure_shelf;
 mod sure_sink;
 #[cfg(test)]
 mod tests;
+mod whole;
 
 pub use mem_shelf::MemShelf;
 pub use mem_sink::MemSink;

@@ -1,7 +1,7 @@
 // A shelf in memory that fails the fetches that it was told to fail.
-ghost use Rattle.std.specs.Prelude.{◌≡◌, ◌<◌, ◌≤◌, ◌^◌, ◌↔◌, [], ◌∷◌, ◌++◌, Some, OnOk, OnErr, IsTrue, IsErrOf};
+ghost use Rattle.std.specs.Prelude.{◌≡◌, ◌<◌, ◌≤◌, ◌^◌, ◌↔◌, [], ◌∷◌, ◌++◌, Some, Err, OnOk, OnErr, IsTrue, IsErrOf};
 ghost use Rattle.ld_io.specs.Faults.{next_count};
-ghost use Rattle.ld_io.specs.Files.{file_of};
+ghost use Rattle.ld_io.specs.Files.{file_found, HasBytes};
 ghost use Rattle.ld_io.specs.MemShelf.{next_fails};
 ghost use Rattle.ld_io.specs.Shelf.{FetchFits, FetchTold, faults_after_fetch};
 
@@ -20,9 +20,9 @@ pub struct MemShelf {
 }
 
 impl Model for MemShelf {
-    ghost use Rattle.ld_io.specs.MemShelf.{State};
+    ghost use Rattle.ld_io.specs.MemShelf.{MemShelfValue};
 
-    ghost Value = { State };
+    ghost Value = { MemShelfValue };
 
     ghost view = { λ s. record {
       files = s.shelf;
@@ -68,6 +68,13 @@ impl MemShelf {
         Ok(())
     }
 
+    /// How many fetches there were. The count stands still at 2^64 - 1.
+    pub fn fetches(&self) -> u64
+        ensures { result ≡ self.now.fetches }
+    {
+        self.fetches
+    }
+
     // Counts a fetch, and says whether it is to fail.
     fn count_fetch(&mut self) -> bool
         ensures fails { result ≡ next_fails self.old }
@@ -79,7 +86,7 @@ impl MemShelf {
 }
 
 impl Shelf for MemShelf {
-    ghost files = { λ s. Some (file_of s.files) };
+    ghost files = { λ s. Some (file_found s.files) };
 
     ghost faults = { λ s. s.faults };
 
@@ -98,8 +105,9 @@ impl Shelf for MemShelf {
         } }
         ensures never_falls { self.old.faults ≤ self.new.faults }
         ensures failed { IsErrOf result FetchError.Failed ↔ IsTrue (next_fails self.old) }
+        ensures memory { result ≡ Err FetchError.Memory → HasBytes (file_found self.old.files place name.now) }
         ensures fits { FetchFits max result into.new.items }
-        ensures told { FetchTold (file_of self.old.files place name.now) max result into.new.items }
+        ensures told { FetchTold (file_found self.old.files place name.now) max result into.new.items }
     {
         if self.count_fetch() {
             self.faults = self.faults.saturating_add(1);

@@ -1,7 +1,7 @@
 // A sink in memory that fails the puts that it was told to fail.
-ghost use Rattle.std.specs.Prelude.{◌≡◌, ◌≤◌, ℕ, List, [], ◌∷◌, Some, None, OnOk, OnErr, IsSomeAnd, take};
+ghost use Rattle.std.specs.Prelude.{◌≡◌, ◌<◌, ◌≤◌, ℕ, List, [], ◌∷◌, length, Some, None, OnOk, OnErr, IsSomeAnd, take};
 ghost use Rattle.ld_io.specs.Faults.{next_count};
-ghost use Rattle.ld_io.specs.MemSink.{listed_len, taken_len, with_put, with_fault};
+ghost use Rattle.ld_io.specs.MemSink.{listed_len, taken_len, taken_of, with_put, with_fault};
 
 use crate::sink::{PutError, Sink};
 use std::alloc::{AllocError, Global};
@@ -18,9 +18,9 @@ pub struct MemSink {
 }
 
 impl Model for MemSink {
-    ghost use Rattle.ld_io.specs.MemSink.{State};
+    ghost use Rattle.ld_io.specs.MemSink.{MemSinkValue};
 
-    ghost Value = { State };
+    ghost Value = { MemSinkValue };
 
     ghost view = { λ s. record {
       bytes = s.bytes.items;
@@ -59,6 +59,13 @@ impl MemSink {
         Ok(())
     }
 
+    /// How many puts there were. The count stands still at 2^64 - 1.
+    pub fn puts(&self) -> u64
+        ensures { result ≡ self.now.puts }
+    {
+        self.puts
+    }
+
     /// The bytes taken.
     pub fn bytes(&self) -> &[u8]
         ensures { result.now ≡ self.now.bytes }
@@ -88,6 +95,7 @@ impl Sink for MemSink {
         ensures failed { result ≡ Err PutError.Failed → IsSomeAnd (taken_len self.old piece.now)
             (λ n. self.new ≡ with_fault self.old (take n piece.now)) }
         ensures memory { result ≡ Err PutError.Memory → self.new ≡ with_put self.old [] }
+        ensures room { result ≡ Err PutError.Memory → 0 < length (taken_of self.old piece.now) }
         ensures never_falls { self.old.faults ≤ self.new.faults }
     {
         self.puts = self.puts.saturating_add(1);

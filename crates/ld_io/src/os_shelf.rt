@@ -1,15 +1,17 @@
 // Files of the system.
-ghost use Rattle.std.specs.Prelude.{◌≡◌, ◌<◌, ◌≤◌, ◌^◌, ◌++◌, [], None, MatchOption, OnOk, IfOk, IfSome, take, vec_len, string_bytes, Contains, IsUtf8};
-ghost use Rattle.ld_io.specs.OsShelf.{path_of, HasNoPath, stopped_by};
+ghost use Rattle.std.specs.Prelude.{◌≡◌, ◌<◌, ◌≤◌, ◌^◌, [], None, string_bytes};
+ghost use Rattle.ld_io.specs.OsShelf.{HasNoPath, stopped_by};
 ghost use Rattle.ld_io.specs.Shelf.{FetchFits, faults_after_fetch};
+ghost use Rattle.ld_io.specs.Whole.{ReadFits};
 
+use crate::path::{path_end, path_in};
 use crate::shelf::{FetchError, Fetched, Place, Shelf};
-use std::alloc::{AllocError, Global};
+use crate::whole::{ReadError, read_whole};
+use std::fs;
 use std::fs::OpenFile;
-use std::io::{ErrorKind, Read};
+use std::io::ErrorKind;
 use std::marker::Model;
 use std::rt::Files;
-use std::{fs, io, str};
 
 /// The files of the system, below a library folder and a model folder.
 #[derive(Drop)]
@@ -22,9 +24,9 @@ pub struct OsShelf<R> {
 
 impl<R> Model for OsShelf<R> {
     ghost use Rattle.std.specs.Prelude.{string_bytes};
-    ghost use Rattle.ld_io.specs.OsShelf.{State};
+    ghost use Rattle.ld_io.specs.OsShelf.{OsShelfValue};
 
-    ghost Value = { State };
+    ghost Value = { OsShelfValue };
 
     ghost view = { λ s. record {
       library = string_bytes s.library;
@@ -70,61 +72,24 @@ impl<R> OsShelf<R> {
     }
 }
 
-impl<R: AllocGlobal> OsShelf<R> {
-    fn path(&self, place: Place, name: &str) -> Result<String, AllocError>
-        ensures { IfOk result (λ path. string_bytes path ≡ path_of self.now place name.now) }
-    {
-        let alloc = self.rt.alloc();
-        let (library, model) = (self.library.as_str(), self.model.as_str());
-        match place {
-            Place::Work => String::from_str(alloc, name),
-            Place::Model => joined(alloc, model, "/", name),
-            Place::Parts => joined(alloc, library, "/parts/", name),
-            Place::P => joined(alloc, library, "/p/", name),
-        }
-    }
-}
-
-fn joined(alloc: Global, folder: &str, between: &str, name: &str) -> Result<String, AllocError>
-    ensures { IfOk result (λ path. string_bytes path ≡ folder.now ++ between.now ++ name.now) }
+// Reads a file of at most `max` bytes.
+fn read_file(rt: &impl Files, path: &str, max: u64, into: &mut Vec<u8>) -> Result<(), ReadError>
+    requires empty { into.old.items ≡ [] }
+    requires small { max < 2 ^ 32 }
+    ensures { ReadFits max result into.new.items }
 {
-    format!(in alloc; "{folder}{between}{name}")
-}
-
-// A name that can end a path.
-fn path_end(name: &[u8]) -> Option<&str>
-    ensures { MatchOption result (HasNoPath name.now)
-        (λ end. (¬ (HasNoPath name.now)) × (end.now ≡ name.now)) }
-{
-    if name.contains(&0) {
-        return None;
-    }
-    str::from_utf8(name).ok()
-}
-
-fn read_file(rt: &impl Files, path: &str, most: u64, into: &mut Vec<u8>) -> io::Result<()>
-    requires { into.old.items ≡ [] }
-    ensures { vec_len into.new ≤ most }
-{
-    let file = fs::open(rt, path)?;
+    let file = match fs::open(rt, path) {
+        Ok(file) => file,
+        Err(error) => return Err(ReadError::Failed(error.kind())),
+    };
     // One more than the size, so that the end is met without another growth.
     if let Ok(metadata) = file.metadata() {
-        into.reserve_exact(metadata.len().saturating_add(1).min(most) as usize)?;
+        let size = metadata.len().saturating_add(1).min(max + 1);
+        if into.reserve_exact(size as usize).is_err() {
+            return Err(ReadError::Failed(ErrorKind::OutOfMemory));
+        }
     }
-    read_first(file, most, into)
-}
-
-// Reads the first `most` bytes of a file.
-fn read_first<F: Read + Drop>(file: F, most: u64, into: &mut Vec<u8>) -> io::Result<()>
-    requires { into.old.items ≡ [] }
-    ensures bound { vec_len into.new ≤ most }
-    ensures bytes { OnOk result (IfSome (F.remaining file) (λ all. into.new.items ≡ take most all)) }
-{
-    let read = file.take(most).read_to_end(into);
-    // Nothing is cut off: the contract of `take` does not give the bound.
-    into.truncate(most as usize);
-    read?;
-    Ok(())
+    read_whole(file, max, into)
 }
 
 impl<R: Files + AllocGlobal + Drop> Shelf for OsShelf<R> {
@@ -150,13 +115,15 @@ impl<R: Files + AllocGlobal + Drop> Shelf for OsShelf<R> {
         let Some(end) = path_end(name) else {
             return Ok(Fetched::Absent);
         };
-        let path = self.path(place, end)?;
-        match read_file(&self.rt, path.as_str(), max + 1, into) {
-            Ok(()) if into.len() as u64 > max => Err(FetchError::TooBig),
+        let alloc = self.rt.alloc();
+        let (library, model) = (self.library.as_str(), self.model.as_str());
+        let path = path_in(alloc, library, model, place, end)?;
+        match read_file(&self.rt, path.as_str(), max, into) {
             Ok(()) => Ok(Fetched::Found),
-            Err(error) => {
+            Err(ReadError::TooBig) => Err(FetchError::TooBig),
+            Err(ReadError::Failed(kind)) => {
                 into.clear();
-                self.stopped_by(error.kind())
+                self.stopped_by(kind)
             }
         }
     }

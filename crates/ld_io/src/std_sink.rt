@@ -3,8 +3,8 @@ ghost use Rattle.std.specs.Prelude.{◌≡◌, ◌≢◌, ◌≤◌, ℕ, None};
 ghost use Rattle.ld_io.specs.Sink.{faults_after_put};
 
 use crate::sink::{PutError, Sink};
+use crate::whole::write_whole;
 use std::io;
-use std::io::Write;
 use std::marker::Model;
 
 /// Standard output.
@@ -40,10 +40,10 @@ impl<R: Print + Drop> Sink for StdSink<R> {
         ensures never_falls { self.old ≤ self.new }
         ensures no_memory { result ≢ Err PutError.Memory }
     {
-        if io::writer(&self.rt).write_all(piece).is_err() {
+        let written = write_whole(&mut io::writer(&self.rt), piece);
+        if written.is_err() {
             self.faults = self.faults.saturating_add(1);
-            return Err(PutError::Failed);
         }
-        Ok(())
+        written
     }
 }

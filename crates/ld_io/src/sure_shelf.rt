@@ -1,6 +1,6 @@
 // A shelf in memory that never fails.
 ghost use Rattle.std.specs.Prelude.{◌≡◌, ◌≢◌, ◌<◌, ◌^◌, ℕ, List, [], ◌∷◌, Some, OnOk, OnErr, option_copied};
-ghost use Rattle.ld_io.specs.Files.{file_of};
+ghost use Rattle.ld_io.specs.Files.{file_found, HasBytes};
 ghost use Rattle.ld_io.specs.Shelf.{FetchFits, FetchTold};
 
 use crate::shelf::{FetchError, Fetched, Place, Shelf};
@@ -58,7 +58,7 @@ impl SureShelf {
     }
 
     fn find(&self, place: Place, name: &[u8]) -> Option<&[u8]>
-        ensures { option_copied result ≡ file_of self.now place name.now }
+        ensures { option_copied result ≡ file_found self.now place name.now }
     {
         let mut files = self.files.as_slice();
         while let [file, older @ ..] = files {
@@ -72,7 +72,7 @@ impl SureShelf {
 }
 
 impl Shelf for SureShelf {
-    ghost files = { λ files. Some (file_of files) };
+    ghost files = { λ files. Some (file_found files) };
 
     ghost faults = { λ _. 0 };
 
@@ -87,8 +87,9 @@ impl Shelf for SureShelf {
         requires small { max < 2 ^ 32 }
         ensures same { self.new ≡ self.old }
         ensures sure { result ≢ Err FetchError.Failed }
+        ensures memory { result ≡ Err FetchError.Memory → HasBytes (file_found self.old place name.now) }
         ensures fits { FetchFits max result into.new.items }
-        ensures told { FetchTold (file_of self.old place name.now) max result into.new.items }
+        ensures told { FetchTold (file_found self.old place name.now) max result into.new.items }
     {
         let Some(bytes) = self.find(place, name) else {
             return Ok(Fetched::Absent);

@@ -1,5 +1,5 @@
 // A sink in memory that never fails.
-ghost use Rattle.std.specs.Prelude.{◌≡◌, ◌≢◌, ℕ, List, [], ◌++◌, Some, OnOk, OnErr};
+ghost use Rattle.std.specs.Prelude.{◌≡◌, ◌≢◌, ◌<◌, ℕ, List, [], ◌++◌, length, Some, OnOk, OnErr};
 
 use crate::sink::{PutError, Sink};
 use std::alloc::Global;
@@ -43,6 +43,7 @@ impl Sink for SureSink {
     fn put(&mut self, piece: &[u8]) -> Result<(), PutError>
         ensures ok { OnOk result (self.new ≡ self.old ++ piece.now) }
         ensures err { OnErr result (self.new ≡ self.old) }
+        ensures memory { result ≡ Err PutError.Memory → 0 < length piece.now }
         ensures sure { result ≢ Err PutError.Failed }
     {
         self.bytes.extend_from_slice(piece)?;
