@@ -32,7 +32,7 @@ impl FileId {
 }
 
 /// The number of a known file, in the order in which files became known.
-#[derive(Clone, Copy, Debug, PartialEq, Eq, PartialOrd, Ord, Hash)]
+#[derive(Clone, Copy, Debug, Default, PartialEq, Eq, PartialOrd, Ord, Hash)]
 pub struct TextId(pub u32);
 
 /// Folders in the order in which a file is looked for: the first `count` of the list.
