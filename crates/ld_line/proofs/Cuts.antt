@@ -6,7 +6,7 @@ use Rattle.std.proofs.lemmas.List.Splits.{slice_split_none, slice_split_first}
 use Rattle.std.proofs.lemmas.List.Sums.{position_or_len_is}
 use Rattle.std.proofs.lemmas.List.{get_or_default}
 use Rattle.memchr.specs.Find.{IsFirstByte}
-use Rattle.ld_line.specs.Cut.{is_line_feed, without_empty_end}
+use Rattle.ld_line.specs.Cut.{cut, is_line_feed, lines_from, without_empty_end}
 
 not_true : (b : Bool) → (b ≡ true → ⊥) → b ≡ false
 not_true true h = absurd (h refl)
@@ -33,32 +33,42 @@ without_empty_end-more piece [] = refl
 without_empty_end-more piece (x ∷ xs) =
     elim (is_line_feed x) as (λ b. without_empty_end (piece ∷ cond b ([] ∷ slice_split is_line_feed xs) (onto_first x (slice_split is_line_feed xs))) ≡ piece ∷ without_empty_end (cond b ([] ∷ slice_split is_line_feed xs) (onto_first x (slice_split is_line_feed xs)))) [ true ↦ refl | false ↦ without_empty_end-onto piece x (slice_split is_line_feed xs) ]
 
--- the lines that the bytes give
-abbrev pub lines_in : List ℕ → List (List ℕ)
-lines_in xs = map strip_carriage_return (without_empty_end (slice_split is_line_feed xs))
-
-pub lines_in-more : (xs piece more : List ℕ) → slice_split is_line_feed xs ≡ piece ∷ slice_split is_line_feed more → lines_in xs ≡ strip_carriage_return piece ∷ lines_in more
-lines_in-more xs piece more is =
+pub cut-more : (xs piece more : List ℕ) → slice_split is_line_feed xs ≡ piece ∷ slice_split is_line_feed more → cut xs ≡ strip_carriage_return piece ∷ cut more
+cut-more xs piece more is =
     ap (λ pieces. map strip_carriage_return (without_empty_end pieces)) is ∙ ap (map strip_carriage_return) (without_empty_end-more piece more)
 
-pub lines_in-last : (xs : List ℕ) → slice_split is_line_feed xs ≡ xs ∷ [] → 0 < length xs → lines_in xs ≡ strip_carriage_return xs ∷ []
-lines_in-last [] is some = absurd (omega arith)
-lines_in-last (x ∷ xs) is some =
+pub cut-last : (xs : List ℕ) → slice_split is_line_feed xs ≡ xs ∷ [] → 0 < length xs → cut xs ≡ strip_carriage_return xs ∷ []
+cut-last [] is some = absurd (omega arith)
+cut-last (x ∷ xs) is some =
     let kept : (length (x ∷ xs) == 0) ≡ false = grind (arith, tests) in
     ap (λ pieces. map strip_carriage_return (without_empty_end pieces)) is ∙ rw kept refl
 
--- one more line of those that the bytes give
-pub lines_in-step : (old new whole : List (List ℕ)) (line xs piece more : List ℕ) → slice_split is_line_feed xs ≡ piece ∷ slice_split is_line_feed more → line ≡ strip_carriage_return piece → new ≡ old ++ line ∷ [] → old ++ lines_in xs ≡ whole → new ++ lines_in more ≡ whole
-lines_in-step old new whole line xs piece more cut is pushed so_far =
-    ap (λ ls. ls ++ lines_in more) (pushed ∙ ap (λ l. old ++ l ∷ []) is) ∙ append_assoc old (strip_carriage_return piece ∷ []) (lines_in more) ∙ ap (λ ls. old ++ ls) (sym (lines_in-more xs piece more cut)) ∙ so_far
+-- the first line, and the lines behind it
+pub lines_from-first : (text piece more : List ℕ) → slice_split is_line_feed text ≡ piece ∷ slice_split is_line_feed more → lines_from text ≡ strip_carriage_return piece ∷ lines_from more
+unfolding lines_from
+lines_from-first text piece more is = cut-more text piece more is
+
+pub lines_from-last : (text : List ℕ) → slice_split is_line_feed text ≡ text ∷ [] → 0 < length text → lines_from text ≡ strip_carriage_return text ∷ lines_from []
+unfolding lines_from
+lines_from-last text is some = cut-last text is some
+
+pub lines_from-none : (text : List ℕ) → length text ≡ 0 → lines_from text ≡ []
+unfolding lines_from
+lines_from-none [] ends = refl
+lines_from-none (x ∷ xs) ends = absurd (omega arith)
+
+-- one line more of the whole
+pub lines-step : (old new now more whole : List (List ℕ)) (line : List ℕ) → now ≡ line ∷ more → new ≡ old ++ line ∷ [] → old ++ now ≡ whole → new ++ more ≡ whole
+lines-step old new now more whole line first pushed so_far =
+    ap (λ ls. ls ++ more) pushed ∙ append_assoc old (line ∷ []) more ∙ ap (λ ls. old ++ ls) (sym first) ∙ so_far
 
 -- a text with one more line to come has lines
-pub lines_in-some : (old whole : List (List ℕ)) (xs piece more : List ℕ) → slice_split is_line_feed xs ≡ piece ∷ slice_split is_line_feed more → old ++ lines_in xs ≡ whole → whole ≢ []
-lines_in-some [] whole xs piece more cut so_far none = cons_some _ _ (sym (lines_in-more xs piece more cut) ∙ so_far ∙ none)
+pub lines-some : (old now more whole : List (List ℕ)) (line : List ℕ) → now ≡ line ∷ more → old ++ now ≡ whole → whole ≢ []
+lines-some [] now more whole line first so_far none = cons_some (sym first ∙ so_far ∙ none)
   where
-    cons_some : (x : List ℕ) (ls : List (List ℕ)) → x ∷ ls ≢ []
-    cons_some x ls e = cc
-lines_in-some (x ∷ old) whole xs piece more cut so_far none = nil_none (so_far ∙ none)
+    cons_some : line ∷ more ≢ []
+    cons_some e = cc
+lines-some (x ∷ old) now more whole line first so_far none = cons_some (so_far ∙ none)
   where
-    nil_none : x ∷ (old ++ lines_in xs) ≢ []
-    nil_none e = cc
+    cons_some : x ∷ (old ++ now) ≢ []
+    cons_some e = cc

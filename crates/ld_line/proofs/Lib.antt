@@ -1,6 +1,9 @@
+pub mod Colours
 pub mod Cuts
+pub mod Ends
 pub mod Fields
 pub mod Files
 pub mod OtherLines
 pub mod Steps
 pub mod Values
+pub mod Words

@@ -1,10 +1,9 @@
 use Rattle.std.proofs.Common.{◌≡◌, ◌++◌, length}
-use Rattle.ld_line.specs.Cut.{lines_of}
-use Rattle.ld_line.proofs.Cuts.{lines_in}
+use Rattle.ld_line.specs.Cut.{lines_from, lines_of}
 use Rattle.ld_line.proofs.cut.lines_of.Given as goal
 
-abbrev pub invariant-loop-piece : goal.invariant-loop-piece
-invariant-loop-piece l = l.lines.items ++ lines_in l.rest ≡ lines_of l.bytes
+abbrev pub invariant-loop-line : goal.invariant-loop-line
+invariant-loop-line l = l.lines.items ++ lines_from l.rest ≡ lines_of l.bytes
 
-abbrev pub decreases-loop-piece : goal.decreases-loop-piece
-decreases-loop-piece l = length l.rest
+abbrev pub decreases-loop-line : goal.decreases-loop-line
+decreases-loop-line l = length l.rest
