@@ -1,5 +1,6 @@
 pub mod Cut
 pub mod Nearest
+pub mod Plain
 pub mod Printed
 pub mod Scanned
 pub mod Sizes

@@ -37,7 +37,7 @@ six_value size =
 is_place : (n : ℕ) → digit_value (48 + n % 10) < 10
 is_place n = rw (place_of n) (omega arith)
 
-six_are_digits : (size : ℕ) → AllDigits 10 (six_digits size)
+pub six_are_digits : (size : ℕ) → AllDigits 10 (six_digits size)
 six_are_digits size =
     (is_place (size / 100000), (is_place (size / 10000), (is_place (size / 1000), (is_place (size / 100), (is_place (size / 10), (is_place size, tt))))))
 

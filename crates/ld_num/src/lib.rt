@@ -3,6 +3,7 @@
 
 mod dec;
 mod digits;
+mod laws;
 mod numeral;
 mod placing;
 mod point;
@@ -11,6 +12,7 @@ mod read;
 mod scale;
 
 pub use dec::{Dec, NumError};
+pub use laws::print_law;
 pub use placing::{mirrored, place};
 pub use point::{Placement, Point};
 pub use print::print_dec;
