@@ -1,12 +1,12 @@
-// Placing points: exact sums of products in 128 bits, rounded once.
+// Placing points: exact sums of products in 128 bits, each rounded once.
 ghost use Rattle.std.specs.Prelude.{◌≡◌, ◌^◌, ◌*◌, ◌+◌, ◌≤◌, pos, ◌+ℤ◌, ◌*ℤ◌, neg_ℤ, unsigned_abs, IsTrue, if◌then◌else◌, Some, None};
 ghost use Rattle.ld_num.specs.Number.{is_in_range};
 ghost use Rattle.ld_num.specs.Placing.{determinant, exact, fixed, is_mirrored, minor, moved};
 
-use crate::digits::MAX_SIZE;
 use crate::{Dec, Placement, Point};
 
-const MILLION: u128 = 1_000_000;
+// The least size out of range, in units of 10^-12 and half a millionth more.
+const TOO_FAR: u128 = 1_000_000_000_001_000_000;
 
 /// Moves a point by a placement: with the point `u v w`, to `a*u + b*v + c*w + x`, `d*u + e*v + f*w + y` and
 /// `g*u + h*v + i*w + z` (File Format 1.0.2, "Line Type 1").
@@ -14,6 +14,7 @@ const MILLION: u128 = 1_000_000;
 /// Each coordinate is computed exactly and then rounded once to millionths, ties away from zero.
 /// The answer is `None` exactly where a rounded coordinate's size is above 10^12 millionths.
 #[tactic(auto, unfolding(crate::specs::Placing::moved))]
+#[inline]
 pub fn place(by: &Placement, point: Point) -> Option<Point>
     ensures { result ≡ moved by.now point }
 {
@@ -23,6 +24,7 @@ pub fn place(by: &Placement, point: Point) -> Option<Point>
     Some(Point { x, y, z })
 }
 
+#[inline]
 fn coordinate(a: Dec, b: Dec, c: Dec, offset: Dec, point: &Point) -> Option<Dec>
     ensures { let value = fixed (exact a b c offset point.now) in result ≡ (if is_in_range value then Some value else None) }
 {
@@ -30,6 +32,7 @@ fn coordinate(a: Dec, b: Dec, c: Dec, offset: Dec, point: &Point) -> Option<Dec>
 }
 
 // In units of 10^-12.
+#[inline]
 fn exact(a: Dec, b: Dec, c: Dec, offset: Dec, point: &Point) -> i128
     ensures value { result ≡ exact a b c offset point.now }
     ensures small { unsigned_abs result ≤ 4 * 10 ^ 24 }
@@ -45,7 +48,7 @@ fn raised(number: Dec) -> i128
     ensures value { result ≡ number *ℤ pos (10 ^ 6) }
     ensures small { unsigned_abs result ≤ 10 ^ 18 }
 {
-    i128::from(number.millionths()) * 1_000_000
+    i128::from(number.millionths() * 1_000_000)
 }
 
 fn sum(a: i128, b: i128) -> i128
@@ -64,16 +67,17 @@ fn product(a: Dec, b: Dec) -> i128
     i128::from(a.millionths()) * i128::from(b.millionths())
 }
 
-// What is in units of 10^-12, in millionths.
+// What is in units of 10^-12, in millionths. All that is in range fits 64 bits before it is divided.
+#[inline]
 fn rounded(value: i128) -> Option<Dec>
     requires { unsigned_abs value ≤ 4 * 10 ^ 24 }
     ensures { result ≡ (if is_in_range (fixed value) then Some (fixed value) else None) }
 {
-    let size = (value.unsigned_abs() + MILLION / 2) / MILLION;
-    if size > u128::from(MAX_SIZE) {
+    let above = value.unsigned_abs() + 500_000;
+    if above >= TOO_FAR {
         return None;
     }
-    let size = size as i64;
+    let size = (above as u64 / 1_000_000) as i64;
     Some(Dec::from_millionths(if value < 0 { -size } else { size }))
 }
 

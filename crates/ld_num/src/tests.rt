@@ -172,6 +172,93 @@ fn reads_many_digits(rt: HostRuntime) {
     assert!(rt; read_dec(&zeros) == Err(NumError::NotANumber));
 }
 
+// In each line twelve numbers of a placement, three of a point, and what is printed of the point moved.
+const PLACED: &str = "\
+0 0 0 1 0 0 0 1 0 0 0 1|-1.5 2 1000000|-1.5 2 1000000
+0 0 0 0.333333 0 0 0 1 0 0 0 1|1.5 0 0|0.5 0 0
+0 0 0 3 0 0 0 1 0 0 0 1|0.5 0 0|1.5 0 0
+1 2 3 0 0 0 0 0 0 0 0 0|5 -5 1000000|1 2 3
+1 2 3 2 3 5 7 11 13 17 19 23|100 10 1|236 825 1916
+0 0 0 0.5 0 0 0 0.5 0 0 0 0.5|0.000001 -0.000001 0.000003|0.000001 -0.000001 0.000002
+0.000001 -0.000001 0 0.5 0 0 0 0.5 0 0 0 -0.5|-0.000003 0.000003 0.000001|-0.000001 0.000001 -0.000001
+0 0 0 0.4 0.1 0 -0.4 -0.1 0 0.4 0 0.09|0.000001 0.000001 0.000001|0.000001 -0.000001 0
+0 0 0 0.499999 0 0 0 -0.499999 0 0 0 0|0.000001 0.000001 1|0 0 0
+0 0 0 1000 0 0 0 -1000 0 0 0 999.9999|1000 1000 1000|1000000 -1000000 999999.9
+0 0 0 1000 0 0 0 1 0 0 0 1|1000.000001 0 0|none
+0 0 0 1 0 0 0 -1000 0 0 0 1|0 1000.000001 0|none
+0 0 -0.000001 1 0 0 0 1 0 0 0 -1|0 0 1000000|none
+0 0 0.000001 1 0 0 0 1 0 0 0 -1|0 0 1000000|0 0 -999999.999999
+1000000 0 0 1000000 1000000 1000000 0 1 0 0 0 1|1000000 1000000 1000000|none
+0 0 0 1000000 -1000000 0.5 0 1 0 0 0 1|1000000 1000000 0.000001|0.000001 1000000 0.000001
+0 0 0 18.446744 0 0 0 18446.744073 0 0 0 -18.446745|1000000 1000000 0.000001|none
+0 0 0 18.446744073 0 0 0 18.446744 0 0 0 -18.446744|1000 1000 -1000|18446.744 18446.744 18446.744
+-1000000 0 0 1000000 0 0 0 1000000 0 0 0 1000000|1.999999 0.999999 -1|999999 999999 -1000000
+";
+
+// The numbers of a line that gives some, and zeros.
+fn numbers(text: &str) -> [Dec; 12] {
+    let mut numbers = [Dec::zero(); 12];
+    for (index, word) in text.split(' ').enumerate() {
+        if index < 12 {
+            numbers[index] = read_dec(word.as_bytes()).unwrap_or(Dec::zero());
+        }
+    }
+    numbers
+}
+
+fn placement(text: &str) -> Placement {
+    let [x, y, z, a, b, c, d, e, f, g, h, i] = numbers(text);
+    Placement {
+        x,
+        y,
+        z,
+        a,
+        b,
+        c,
+        d,
+        e,
+        f,
+        g,
+        h,
+        i,
+    }
+}
+
+fn moved_text(alloc: Global, by: &str, point: &str) -> Result<Vec<u8>, AllocError> {
+    let [x, y, z, ..] = numbers(point);
+    let mut line = Vec::new(alloc);
+    let Some(moved) = place(&placement(by), Point { x, y, z }) else {
+        line.extend_from_slice(b"none")?;
+        return Ok(line);
+    };
+    print_dec(moved.x, &mut line)?;
+    line.push(b' ')?;
+    print_dec(moved.y, &mut line)?;
+    line.push(b' ')?;
+    print_dec(moved.z, &mut line)?;
+    Ok(line)
+}
+
+#[test]
+fn places_each_row(rt: HostRuntime) {
+    for row in PLACED.lines() {
+        let (by, rest) = row.split_once('|').expect(&rt, "a row");
+        let (point, want) = rest.split_once('|').expect(&rt, "a row");
+        let line = moved_text(rt.alloc(), by, point).expect(&rt, "memory");
+        assert_eq!(rt; line.as_slice(), want.as_bytes(), "{row}");
+    }
+    for (row, want) in [
+        ("9 9 9 -1 0 0 0 1 0 0 0 1", true),
+        ("0 0 0 1 2 3 4 5 6 7 8 9.000001", true),
+        ("0 0 0 1000000 0 0 0 -1000000 0 0 0 1000000", true),
+        ("0 0 0 1 0 0 0 1 0 0 0 1", false),
+        ("0 0 0 1 2 3 4 5 6 7 8 8.999999", false),
+        ("0 0 0 1 2 3 4 5 6 7 8 9", false),
+    ] {
+        assert!(rt; mirrored(&placement(row)) == want, "{row}");
+    }
+}
+
 fn crosses_threads<T: Send + Sync>() {}
 
 #[test]
