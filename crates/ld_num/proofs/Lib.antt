@@ -1,4 +1,5 @@
 pub mod Cut
+pub mod Fronts
 pub mod Nearest
 pub mod Plain
 pub mod Printed

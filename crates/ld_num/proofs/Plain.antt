@@ -18,11 +18,11 @@ digit_is_plain : (b : ℕ) → digit_value b < 10 → is_numeral_byte b ≡ true
 digit_is_plain b h =
     let r : IsInRange 48 57 b = digit_from_value b h in grind (arith, nat_tests)
 
-digits_are_plain : (ds : List ℕ) → AllDigits 10 ds → list_all is_numeral_byte ds ≡ true
+pub digits_are_plain : (ds : List ℕ) → AllDigits 10 ds → list_all is_numeral_byte ds ≡ true
 digits_are_plain [] h = refl
 digits_are_plain (d ∷ ds) h = and_from _ _ (digit_is_plain d h.0) (digits_are_plain ds h.1)
 
-fraction_is_plain : (ds : List ℕ) → AllDigits 10 ds → list_all is_numeral_byte (after_period ds) ≡ true
+pub fraction_is_plain : (ds : List ℕ) → AllDigits 10 ds → list_all is_numeral_byte (after_period ds) ≡ true
 fraction_is_plain [] h = refl
 fraction_is_plain (d ∷ ds) h = digits_are_plain (d ∷ ds) h
 

@@ -75,12 +75,12 @@ trimmed_value xs =
 
 -- ---- a size
 
-made_end : (ws fs : List ℕ) → 0 < length ws → numeral_in ws fs [] ≡ Some (record { whole = ws; fraction = fs; raised = 0; lowered = 0 })
+pub made_end : (ws fs : List ℕ) → 0 < length ws + length fs → numeral_in ws fs [] ≡ Some (record { whole = ws; fraction = fs; raised = 0; lowered = 0 })
 unfolding powers_of
 made_end ws fs h =
-    let some : nat_lt 0 (length ws + length fs) ≡ true = lt-ltb 0 _ (omega arith) in rw some refl
+    let some : nat_lt 0 (length ws + length fs) ≡ true = lt-ltb 0 _ h in rw some refl
 
-with_fraction : (ws fs : List ℕ) → AllDigits 10 ws → AllDigits 10 fs → numeral_of (ws ++ after_period fs) ≡ numeral_in ws fs []
+pub with_fraction : (ws fs : List ℕ) → AllDigits 10 ws → AllDigits 10 fs → numeral_of (ws ++ after_period fs) ≡ numeral_in ws fs []
 with_fraction ws [] w f = plain_end ws w
 with_fraction ws (d ∷ ds) w f =
     let e = pointed_end ws 46 (d ∷ ds) w f refl in rw append-nil at e
@@ -107,11 +107,11 @@ size_again size h =
     let n : Numeral = record { whole = ws; fraction = fs; raised = 0; lowered = 0 } in
     let zeros = trimmed_value (six_digits size) in
     let short : length fs ≤ 6 = length_without (six_digits size) in
-    (n, with_fraction ws fs numeral.0.1 (all_digits-take _ _ (six_are_digits size)) ∙ made_end ws fs numeral.0.0, exact n size refl refl short numeral.1 (sym zeros ∙ six_value size))
+    (n, with_fraction ws fs numeral.0.1 (all_digits-take _ _ (six_are_digits size)) ∙ made_end ws fs (omega (arith, numeral.0.0)), exact n size refl refl short numeral.1 (sym zeros ∙ six_value size))
 
 -- ---- a number
 
-unsigned : (ws rest : List ℕ) → AllDigits 10 ws → 0 < length ws → (without_sign (ws ++ rest) ≡ ws ++ rest) × (begins_with_minus (ws ++ rest) ≡ false)
+pub unsigned : (ws rest : List ℕ) → AllDigits 10 ws → 0 < length ws → (without_sign (ws ++ rest) ≡ ws ++ rest) × (begins_with_minus (ws ++ rest) ≡ false)
 unsigned [] rest w h = absurd (omega arith)
 unsigned (b ∷ ws) rest w h =
     let r : IsInRange 48 57 b = digit_from_value b w.0 in

@@ -1,4 +1,5 @@
 pub mod Examples
+pub mod Front
 pub mod Number
 pub mod Placing
 pub mod Scan

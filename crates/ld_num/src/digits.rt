@@ -1,5 +1,5 @@
 // Digits, and the numbers that they write.
-ghost use Rattle.std.specs.Prelude.{◌≡◌, ◌^◌, ◌+◌, ◌*◌, ◌<◌, ◌≤◌, length, min, nat_le, slice_index, if◌then◌else◌};
+ghost use Rattle.std.specs.Prelude.{◌≡◌, ◌^◌, ◌+◌, ◌*◌, ◌<◌, ◌≤◌, length, min, take, nat_le, slice_index, if◌then◌else◌};
 ghost use Rattle.std.specs.Char.{is_ascii_digit};
 ghost use Rattle.std.specs.List.{prefix_len};
 ghost use Rattle.std.specs.Str.Parse.{AllDigits, digits_value_after};
@@ -23,6 +23,23 @@ pub(crate) fn digit_count(text: &[u8]) -> usize
     text.len()
 }
 
+// The number that the digits at the front write when they follow those of `start`, and how many they are.
+pub(crate) fn front_number(start: u64, text: &[u8]) -> (u64, usize)
+    requires { start ≤ TOO_LARGE }
+    ensures number { result.0 ≡ min (digits_value_after 10 start (take result.1 text.now)) TOO_LARGE }
+    ensures count { result.1 ≡ prefix_len is_ascii_digit text.now }
+    ensures within { result.1 ≤ length text.now }
+{
+    let mut number = start;
+    for (index, byte) in text.iter().enumerate() {
+        if !byte.is_ascii_digit() {
+            return (number, index);
+        }
+        number = (number * 10 + u64::from(*byte - b'0')).min(TOO_LARGE);
+    }
+    (number, text.len())
+}
+
 // The number that the digits write when they follow those of `start`.
 pub(crate) fn capped(start: u64, digits: &[u8]) -> u64
     requires start { start ≤ TOO_LARGE }
@@ -44,6 +61,31 @@ pub(crate) fn with_zeros(number: u64, count: usize) -> u64
     // Thirteen zeros are too many for every number but zero.
     let power = 10u64.pow(count.min(13) as u32);
     number.saturating_mul(power).min(TOO_LARGE)
+}
+
+// The same for a few zeros.
+pub(crate) fn with_few_zeros(number: u64, count: usize) -> u64
+    requires number { number ≤ TOO_LARGE }
+    requires few { count ≤ 6 }
+    ensures { result ≡ min (number * 10 ^ count) TOO_LARGE }
+{
+    (number * tens(count)).min(TOO_LARGE)
+}
+
+fn tens(count: usize) -> u64
+    requires { count ≤ 6 }
+    ensures power { result ≡ 10 ^ count }
+    ensures small { result ≤ 10 ^ 6 }
+{
+    match count {
+        0 => 1,
+        1 => 10,
+        2 => 100,
+        3 => 1_000,
+        4 => 10_000,
+        5 => 100_000,
+        _ => 1_000_000,
+    }
 }
 
 // The number rounded by the digits that follow it.

@@ -1,13 +1,44 @@
 // The parts of a numeral, and the size of its number.
-ghost use Rattle.std.specs.Prelude.{◌≡◌, ℕ, ◌≤◌, ◌&&◌, ◌++◌, length, min, IfSome, if◌then◌else◌};
+ghost use Rattle.std.specs.Prelude.{◌≡◌, ℕ, ◌≤◌, ◌&&◌, ◌∷◌, ◌++◌, length, min, IfSome, if◌then◌else◌};
 ghost use Rattle.std.specs.Option.{option_map};
 ghost use Rattle.std.specs.Str.{all_ascii_digits};
 ghost use Rattle.std.specs.Str.Parse.{AllDigits, digits_value};
+ghost use Rattle.ld_num.specs.Front.{IsFront};
 ghost use Rattle.ld_num.specs.Number.{begins_with_minus, is_power, millionths_of, numeral_of, powers_of, without_sign};
 ghost use Rattle.ld_num.specs.Scan.{after_digits, after_fraction, leading_digits, leading_fraction, numeral_in};
 
-use crate::digits::{TOO_LARGE, capped, digit_count};
+use crate::digits::{TOO_LARGE, capped, digit_count, front_number, with_few_zeros};
 use crate::scale::scaled;
+
+// The size, as of `size_of`, and the length of a numeral that stands first: digits, and a period with one to six digits
+// after it. `None` for other numerals too.
+pub(crate) fn front_size(text: &[u8]) -> Option<(u64, usize)>
+    ensures { IfSome result (λ front. IsFront text.now front.0 front.1) }
+{
+    let (whole, count) = front_number(0, text);
+    let (_, rest) = text.split_at(count);
+    let Some(fraction) = after_period(rest) else {
+        return if count == 0 {
+            None
+        } else {
+            Some((with_few_zeros(whole, 6), count))
+        };
+    };
+    let (number, places) = front_number(whole, fraction);
+    if places == 0 || places > 6 {
+        return None;
+    }
+    Some((with_few_zeros(number, 6 - places), count + 1 + places))
+}
+
+fn after_period(text: &[u8]) -> Option<&[u8]>
+    ensures { IfSome result (λ rest. text.now ≡ 46 ∷ rest.now) }
+{
+    match text {
+        [b'.', rest @ ..] => Some(rest),
+        _ => None,
+    }
+}
 
 // The size in millionths, but at most `TOO_LARGE`, of the number that a numeral without its sign writes.
 pub(crate) fn size_of(text: &[u8]) -> Option<u64>

@@ -1,9 +1,10 @@
-ghost use Rattle.std.specs.Prelude.{◌≡◌};
+ghost use Rattle.std.specs.Prelude.{◌≡◌, ◌++◌, IfSome};
+ghost use Rattle.ld_num.specs.Front.{StartsWith, minus_if};
 ghost use Rattle.ld_num.specs.Number.{dec_of};
 ghost use Rattle.ld_num.specs.Scan.{in_range};
 
 use crate::digits::MAX_SIZE;
-use crate::numeral::{size_of, split_sign};
+use crate::numeral::{front_size, size_of, split_sign};
 use crate::{Dec, NumError};
 
 /// Reads a numeral: at most one sign; decimal digits with at most one period among, before or after them, and at least
@@ -16,10 +17,39 @@ use crate::{Dec, NumError};
 pub fn read_dec(text: &[u8]) -> Result<Dec, NumError>
     ensures { result ≡ dec_of text.now }
 {
+    if let Some((number, rest)) = split_dec(text)
+        && rest.is_empty()
+    {
+        return Ok(number);
+    }
     let (is_negative, unsigned) = split_sign(text);
     match size_of(unsigned) {
         Some(size) => in_range(is_negative, size),
         None => Err(NumError::NotANumber),
+    }
+}
+
+/// Reads the numeral that stands first in a text, where it has no `+`, no exponent and at most six decimals: its number,
+/// and what stands behind it. For a line of many numbers this is faster than `read_dec`, which reads every numeral.
+#[inline]
+pub fn split_dec(text: &[u8]) -> Option<(Dec, &[u8])>
+    ensures { IfSome result (λ cut. StartsWith text.now cut.0 cut.1.now) }
+{
+    let (is_negative, unsigned) = split_minus(text);
+    let (size, count) = front_size(unsigned)?;
+    let Ok(number) = in_range(is_negative, size) else {
+        return None;
+    };
+    let (_, rest) = unsigned.split_at(count);
+    Some((number, rest))
+}
+
+fn split_minus(text: &[u8]) -> (bool, &[u8])
+    ensures { text.now ≡ minus_if result.0 ++ result.1.now }
+{
+    match text {
+        [b'-', rest @ ..] => (true, rest),
+        _ => (false, text),
     }
 }
 
