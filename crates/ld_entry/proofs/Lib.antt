@@ -1,0 +1,9 @@
+pub mod Computed
+pub mod Agreement
+pub mod Action
+pub mod Links
+pub mod Cuts
+pub mod Ends
+pub mod Standing
+pub mod Zeros
+pub mod Lawfulness

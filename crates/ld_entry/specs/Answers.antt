@@ -1,0 +1,59 @@
+-- Answers to queries: the first fault of an expansion, or its entries. The limit on entries is this project's own.
+use Rattle.std.specs.Prelude.{ℕ, zero, suc, ◌-◌, List, [], ◌∷◌, length, slice_get, Option, Some, None, Result, Ok, Err}
+use Rattle.ld_names.specs.declared.file.TextId.{TextId}
+use Rattle.ld_colour.specs.declared.colour.Colour.{Colour}
+use Rattle.ld_entry.specs.Carrying.{Outcome, coloured}
+use Rattle.ld_entry.specs.NumberedTexts.{NumberedTexts}
+use Rattle.ld_entry.specs.Outcomes.{all, context_of}
+use Rattle.ld_entry.specs.declared.entry.Entry.{Entry}
+use Rattle.ld_entry.specs.declared.entry.Entry.TheVariants.{Drawn, Part}
+use Rattle.ld_entry.specs.declared.entry.Fault.{Fault}
+use Rattle.ld_entry.specs.declared.entry.Source.{Source}
+use Rattle.ld_entry.specs.declared.entry.What.TheVariants.{TooMany}
+
+abbrev pub first_fault : List Outcome → Option Fault
+first_fault [] = None
+first_fault (Err fault ∷ outcomes) = Some fault
+first_fault (Ok entry ∷ outcomes) = first_fault outcomes
+
+-- the entries before the first fault
+abbrev pub entries_before : List Outcome → List Entry
+entries_before [] = []
+entries_before (Err fault ∷ outcomes) = []
+entries_before (Ok entry ∷ outcomes) = entry ∷ entries_before outcomes
+
+abbrev pub source_of : Entry → Source
+source_of (Drawn kind certified clip winding colour source points) = source
+source_of (Part file colour source) = source
+
+-- all entries, or the fault behind them
+abbrev pub unless_ended : Option Fault → List Entry → Result (List Entry) Fault
+unless_ended None entries = Ok entries
+unless_ended (Some fault) entries = Err fault
+
+-- the fault TooMany at the entry that is one too many, else what there is
+abbrev pub unless_too_many : Option Entry → List Entry → Option Fault → Result (List Entry) Fault
+unless_too_many (Some entry) entries end = Err (record { what = TooMany; source = source_of entry })
+unless_too_many None entries end = unless_ended end entries
+
+-- the answer of entries and the fault behind them, with so many entries at most
+abbrev pub answered : ℕ → List Entry → Option Fault → Result (List Entry) Fault
+answered most entries end = unless_too_many (slice_get entries most) entries end
+
+abbrev pub answer_of : ℕ → List Outcome → Result (List Entry) Fault
+answer_of most outcomes = answered most (entries_before outcomes) (first_fault outcomes)
+
+-- how many files more a way may have behind a text
+abbrev pub left_below : ℕ → List TextId → ℕ
+left_below depth way = depth - suc (length way)
+
+-- the answer to a query of a root in a colour
+unfoldable pub answer : NumberedTexts → ℕ → ℕ → TextId → Colour → Result (List Entry) Fault
+answer texts depth most root colour = answer_of most (all (left_below depth []) (context_of texts [] root (coloured colour)))
+
+-- the outcomes up to and with the first fault, or the first entry too many
+abbrev pub cut : ℕ → List Outcome → List Outcome
+cut most [] = []
+cut most (Err fault ∷ outcomes) = Err fault ∷ []
+cut zero (Ok entry ∷ outcomes) = Ok entry ∷ []
+cut (suc most) (Ok entry ∷ outcomes) = Ok entry ∷ cut most outcomes

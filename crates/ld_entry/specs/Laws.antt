@@ -1,0 +1,93 @@
+-- Laws of recursive expansion.
+use Rattle.std.specs.Prelude.{◌≡◌, ◌≤◌, ◌<◌, ◌+◌, ◌++◌, ◌⊎◌, ℕ, suc, Bool, true, All, List, [], map, length, take, slice_get, Some, None, Ok, IfOk}
+use Rattle.ld_names.specs.Standing.{Known, Map, Text}
+use Rattle.ld_names.specs.declared.file.FileId.{FileId}
+use Rattle.ld_names.specs.declared.file.TextId.{TextId}
+use Rattle.ld_colour.specs.Colour.{is_lawful, under}
+use Rattle.ld_colour.specs.declared.colour.Colour.{Colour}
+use Rattle.ld_entry.specs.Answers.{answer, answer_of, answered, cut, entries_before, first_fault, left_below}
+use Rattle.ld_entry.specs.Carrying.{Above, Outcome, above_of, beneath, carried, carried_entry, nothing_above}
+use Rattle.ld_entry.specs.Expansion.{Expansion, expansion_of, first_entries, neutral_expansion}
+use Rattle.ld_entry.specs.Lawful.{IsLawfulEntry, IsLawfulOutcome}
+use Rattle.ld_entry.specs.Learnt.{IsLearnt}
+use Rattle.ld_entry.specs.NumberedTexts.{NumberedTexts, known_texts, standing_texts, texts_over}
+use Rattle.ld_entry.specs.Outcomes.{Context, all, all_by_line, context_of, joined}
+use Rattle.ld_entry.specs.declared.entry.Entry.{Entry}
+use Rattle.ld_entry.specs.declared.entry.Entry.TheVariants.{Drawn, Part}
+use Rattle.ld_entry.specs.declared.entry.Fault.{Fault}
+use Rattle.ld_entry.specs.declared.entry.Outer.{Outer}
+
+-- ---- What stands further out acts on each outcome alone.
+
+-- the context, below more
+abbrev pub further_below : Above → Context → Context
+further_below outer context = record context { above = beneath outer context.above }
+
+pub record ActionLaw : Type 0 where
+  -- any references above those that stand above a text carry what each of its lines gives
+  pub further : (outer : Above) (left : ℕ) (context : Context) → all_by_line left (further_below outer context) ≡ map (map (carried outer)) (all_by_line left context)
+  -- below any references a text gives what it gives below nothing, carried through them
+  pub from_nothing : (above : Above) (left : ℕ) (texts : NumberedTexts) (way : List TextId) (text : TextId) → all left (context_of texts way text above) ≡ map (carried above) (all left (context_of texts way text nothing_above))
+
+-- ---- One link.
+
+-- Outcomes as an expansion gives them below one more reference.
+pub record IsCarried (outer : Outer) (most : ℕ) (expansion : Expansion) (outcomes : List Outcome) : Type 0 where
+  -- they begin with the carried entries, up to the first that is refused
+  pub begins : (rest : List Outcome) × (outcomes ≡ map Ok (entries_before (map (carried_entry (above_of outer)) expansion.entries)) ++ rest)
+  -- that refusal is their first fault
+  pub refused : (fault : Fault) → first_fault (map (carried_entry (above_of outer)) expansion.entries) ≡ Some fault → first_fault outcomes ≡ Some fault
+  -- where none is refused, the end of the expansion is
+  pub ended : (fault : Fault) → first_fault (map (carried_entry (above_of outer)) expansion.entries) ≡ None → expansion.end ≡ Some fault → first_fault outcomes ≡ Some fault
+  -- where there is neither, they have no fault, or an entry too many before it
+  pub endless : first_fault (map (carried_entry (above_of outer)) expansion.entries) ≡ None → expansion.end ≡ None → (first_fault outcomes ≡ None) ⊎ (most + 1 ≤ length (entries_before outcomes))
+
+abbrev pub LinkLaw : Type 0
+LinkLaw = (outer : Outer) (texts : NumberedTexts) (depth most : ℕ) (way : List TextId) (text : TextId) → IsCarried outer most (neutral_expansion texts depth most way text) (all (left_below depth way) (context_of texts way text (above_of outer)))
+
+-- ---- A colour.
+
+-- an entry where a colour is current
+abbrev pub tinted : Colour → Entry → Entry
+tinted current (Drawn kind certified clip winding colour source points) = Drawn kind certified clip winding (under colour current) source points
+tinted current (Part file colour source) = Part file (under colour current) source
+
+-- the answer in a colour, by the expansion of the root
+abbrev pub TintLaw : Type 0
+TintLaw = (texts : NumberedTexts) (depth most : ℕ) (root : TextId) (colour : Colour) → answer texts depth most root colour ≡ answered most (map (tinted colour) (neutral_expansion texts depth most [] root).entries) (neutral_expansion texts depth most [] root).end
+
+-- ---- Cuts.
+
+-- What a cut leaves out does not count.
+pub record CutLaws : Type 0 where
+  pub twice : (most : ℕ) (outcomes : List Outcome) → cut most (cut most outcomes) ≡ cut most outcomes
+  pub in_front : (most : ℕ) (outcomes behind : List Outcome) → cut most (cut most outcomes ++ behind) ≡ cut most (outcomes ++ behind)
+  pub behind : (most : ℕ) (before outcomes : List Outcome) → cut most (before ++ cut most outcomes) ≡ cut most (before ++ outcomes)
+  pub below : (most : ℕ) (above : Above) (outcomes : List Outcome) → cut most (map (carried above) (cut most outcomes)) ≡ cut most (map (carried above) outcomes)
+  pub answers : (most : ℕ) (outcomes : List Outcome) → answer_of most (cut most outcomes) ≡ answer_of most outcomes
+
+-- ---- The ends of lines.
+
+-- For any outcomes line by line:
+pub record EndsLaws : Type 0 where
+  -- there is one end for each line
+  pub count : (most : ℕ) (lines : List (List Outcome)) → length (expansion_of most lines).line_ends ≡ length lines
+  -- it counts the first entries of the lines up to and with its own
+  pub counts : (most : ℕ) (lines : List (List Outcome)) (line : ℕ) → line < length lines → slice_get (expansion_of most lines).line_ends line ≡ Some (length (first_entries most (joined (take (suc line) lines))))
+  -- and these are the first ones of all
+  pub first : (most : ℕ) (lines : List (List Outcome)) (line : ℕ) → take (length (first_entries most (joined (take line lines)))) (expansion_of most lines).entries ≡ first_entries most (joined (take line lines))
+
+-- ---- Known and standing texts.
+
+-- Where nothing is wanted, the known texts give what the texts as they stand give, whatever the shelf has.
+pub record StandingLaw : Type 0 where
+  pub outcomes : (inside : TextId → Bool) (known : Known) (shelf : FileId → Text) → IsLearnt inside known → (left : ℕ) (way : List TextId) (text : TextId) (above : Above) → inside text ≡ true → all_by_line left (context_of (standing_texts known shelf) way text above) ≡ all_by_line left (context_of (known_texts known) way text above)
+  pub answers : (inside : TextId → Bool) (known : Known) (shelf : FileId → Text) → IsLearnt inside known → (depth most : ℕ) (root : TextId) (colour : Colour) → inside root ≡ true → answer (standing_texts known shelf) depth most root colour ≡ answer (known_texts known) depth most root colour
+  pub expansions : (inside : TextId → Bool) (known : Known) (shelf : FileId → Text) → IsLearnt inside known → (depth most : ℕ) (way : List TextId) (text : TextId) → inside text ≡ true → neutral_expansion (standing_texts known shelf) depth most way text ≡ neutral_expansion (known_texts known) depth most way text
+
+-- ---- Lawful entries.
+
+-- Where a lawful colour is current, all entries are lawful, and so are those of an answer in a lawful colour.
+pub record LawfulLaw : Type 0 where
+  pub outcomes : (texts : Map) (files : List FileId) (left : ℕ) (way : List TextId) (text : TextId) (above : Above) → is_lawful above.colour ≡ true → All IsLawfulOutcome (all left (context_of (texts_over texts files) way text above))
+  pub answers : (texts : Map) (files : List FileId) (depth most : ℕ) (root : TextId) (colour : Colour) → is_lawful colour ≡ true → IfOk (answer (texts_over texts files) depth most root colour) (All IsLawfulEntry)

@@ -1,0 +1,9 @@
+pub mod Carrying
+pub mod NumberedTexts
+pub mod Outcomes
+pub mod Answers
+pub mod Expansion
+pub mod Learnt
+pub mod Lawful
+pub mod Laws
+pub mod Rows

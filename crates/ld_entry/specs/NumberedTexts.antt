@@ -1,0 +1,59 @@
+-- Texts as an expansion sees them: by the numbers of their files.
+use Rattle.std.specs.Prelude.{ℕ, Bool, false, List, [], map, Option, Some, None, option_map, position, slice_get}
+use Rattle.ld_names.specs.Standing.{Found, Present, Absent, Unknown, Known, Map, Text, find, known_map, same_file, standing}
+use Rattle.ld_names.specs.declared.file.FileId.{FileId}
+use Rattle.ld_names.specs.declared.file.Folder.{Folder}
+use Rattle.ld_names.specs.declared.file.TextId.{TextId}
+use Rattle.ld_line.specs.Part.{is_part_text}
+use Rattle.ld_line.specs.Reading.{line_of}
+use Rattle.ld_line.specs.declared.line.Line.{Line}
+
+-- the lines of each text, whether it is a part text, and which text a name in it finds
+pub record NumberedTexts : Type 0 where
+  pub lines : TextId → List Line
+  pub is_part : TextId → Bool
+  pub found : TextId → List ℕ → Option TextId
+
+-- a file that is absent has no lines, and is no part text
+abbrev pub lines_in : Option Text → List (List ℕ)
+lines_in (Some (Some lines)) = lines
+lines_in text = []
+
+abbrev pub is_part_in : Folder → Option Text → Bool
+is_part_in folder (Some (Some lines)) = is_part_text folder lines
+is_part_in folder text = false
+
+abbrev pub lines_of_file : Map → Option FileId → List Line
+lines_of_file texts (Some file) = map line_of (lines_in (texts file))
+lines_of_file texts None = []
+
+abbrev pub is_part_file : Map → Option FileId → Bool
+is_part_file texts (Some file) = is_part_in file.folder (texts file)
+is_part_file texts None = false
+
+-- the number of a file that was found, which is its place among the files
+abbrev pub number_of : List FileId → Found → Option TextId
+number_of files (Present file) = option_map (λ place. record { 0 = place }) (position (same_file file) files)
+number_of files Absent = None
+number_of files (Unknown folder) = None
+
+abbrev pub found_from : Map → List FileId → List ℕ → Option FileId → Option TextId
+found_from texts files name (Some file) = number_of files (find texts file.folder name)
+found_from texts files name None = None
+
+-- the texts of a map, numbered by a list of files
+abbrev pub texts_over : Map → List FileId → NumberedTexts
+texts_over texts files =
+    record { lines = λ text. lines_of_file texts (slice_get files text.0); is_part = λ text. is_part_file texts (slice_get files text.0); found = λ text name. found_from texts files name (slice_get files text.0) }
+
+-- the known files by their numbers
+abbrev pub known_files : Known → List FileId
+known_files known = map (λ entry. entry.0) known
+
+-- the known texts
+abbrev pub known_texts : Known → NumberedTexts
+known_texts known = texts_over (known_map known) (known_files known)
+
+-- the texts as they stand, by the numbers of the known files
+abbrev pub standing_texts : Known → (FileId → Text) → NumberedTexts
+standing_texts known shelf = texts_over (standing (known_map known) shelf) (known_files known)

@@ -1,0 +1,56 @@
+ghost use Rattle.ld_entry.specs.Laws.{ActionLaw, CutLaws, EndsLaws, LawfulLaw, LinkLaw, StandingLaw, TintLaw};
+
+use ld_bfc::with_laws;
+use ld_colour::{lawful_colours, under_laws};
+use ld_names::{file_laws, lookup_law};
+
+/// What stands further out acts on each outcome alone: below any references a text gives what it
+/// gives below nothing, carried through them.
+pub fn action_law()
+    ensures { ActionLaw }
+{
+    under_laws();
+    with_laws();
+}
+
+/// What a text gives below one reference, by its expansion below nothing: the carried entries up to
+/// the first that is refused, and then that refusal, or else the end of the expansion.
+pub fn link_law()
+    ensures { LinkLaw }
+{
+    under_laws();
+    with_laws();
+}
+
+/// The answer to a query in a colour is that of the root's expansion in this colour.
+pub fn tint_law()
+    ensures { TintLaw }
+{
+    under_laws();
+    with_laws();
+}
+
+/// What stands behind the first fault or the first entry too many does not count.
+pub fn cut_laws()
+    ensures { CutLaws }
+{}
+
+/// How many entries of an expansion stand up to and with each line.
+pub fn ends_laws()
+    ensures { EndsLaws }
+{}
+
+/// Where nothing is wanted, the known texts give what the texts as they stand give.
+pub fn standing_law()
+    ensures { StandingLaw }
+{
+    lookup_law();
+    file_laws();
+}
+
+/// Below a lawful colour all entries have lawful colours, and zero in the points that are not used.
+pub fn lawful_law()
+    ensures { LawfulLaw }
+{
+    lawful_colours();
+}

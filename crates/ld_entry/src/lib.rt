@@ -1,0 +1,13 @@
+//! What an LDraw text expands to: entries and faults, what a reference makes of an entry, and the
+//! definition of recursive expansion with its laws.
+#![tactic(auto)]
+
+mod carrying;
+mod entry;
+mod laws;
+#[cfg(test)]
+mod tests;
+
+pub use carrying::carry;
+pub use entry::{Entry, Fault, Outer, Source, What};
+pub use laws::{action_law, cut_laws, ends_laws, lawful_law, link_law, standing_law, tint_law};

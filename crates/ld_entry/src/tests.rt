@@ -1,0 +1,250 @@
+//! Entries below references, and worked models by the definition of recursive expansion.
+ghost use Rattle.ld_entry.specs.Rows.{AbsentRoot, AsManyAsAllowed, CertificationPassed, CertificationRefused, CertificationStopped, ChainOf64, ChainOf65, ClipAndWinding, Colours, CycleFromTheFirst, CycleFromTheSecond, DepthOfOne, DepthOfThree, DepthOfTwo, DirectColours, EarlierFaultFromOutside, EndsOfAnOrdinaryModel, FirstOfAnOrdinaryModel, InvertnextAndMirror, MatrixOfZeros, MirrorAlone, NameWithoutNormalForm, NoFaultFromOutside, NoLineType, NumberOutOfRange, OneEntryAllowed, OneTooMany, OnlyEntryAllowed, ReferenceToItself, ReferenceWithoutFile, RootWithoutLines, RoundingAtEachReference, UnknownRoot};
+
+use crate::{Entry, Fault, Outer, Source, What, carry};
+use ld_bfc::Below;
+use ld_colour::{Colour, colour_of};
+use ld_line::{Kind, Line, Winding, read_line};
+use ld_names::TextId;
+use ld_num::{Placement, Point};
+use std::alloc::Global;
+use std::mem::size_of;
+use std::test::Fail;
+
+const NEUTRAL: Below = Below {
+    enable: true,
+    clip: true,
+    invert: false,
+};
+
+const HERE: Source = Source {
+    text: TextId(1),
+    line: 7,
+};
+
+const ABOVE: Source = Source {
+    text: TextId(0),
+    line: 3,
+};
+
+// What a reference passes to points and colours, or what a line draws.
+#[derive(Clone, Copy)]
+enum Content {
+    Reference(u32, Placement),
+    Drawn(Kind, [Point; 4]),
+    Other,
+}
+
+fn content_of(line: Line) -> Content {
+    match line {
+        Line::Ref {
+            colour,
+            placement,
+            name,
+        } => {
+            drop(name);
+            Content::Reference(colour, placement)
+        }
+        Line::Draw { kind, points, .. } => Content::Drawn(kind, points),
+        Line::Blank
+        | Line::Comment
+        | Line::Org(_)
+        | Line::Bfc(_)
+        | Line::Step
+        | Line::Rot(_)
+        | Line::Malformed
+        | Line::OutOfRange => Content::Other,
+    }
+}
+
+// The reference that a line of type 1 is.
+fn outer_of(alloc: Global, line: &str, below: Below) -> Result<Outer, Fail> {
+    let Content::Reference(colour, placement) = content_of(read_line(alloc, line.as_bytes())?)
+    else {
+        return Err("no reference".into());
+    };
+    Ok(Outer {
+        placement,
+        colour: colour_of(colour),
+        below,
+        source: ABOVE,
+    })
+}
+
+// The entry that a line of type 2 to 5 draws.
+fn entry_of(alloc: Global, line: &str, colour: Colour) -> Result<Entry, Fail> {
+    let Content::Drawn(kind, points) = content_of(read_line(alloc, line.as_bytes())?) else {
+        return Err("nothing drawn".into());
+    };
+    Ok(Entry::Drawn {
+        kind,
+        certified: true,
+        clip: true,
+        winding: Winding::Ccw,
+        colour,
+        source: HERE,
+        points,
+    })
+}
+
+#[test]
+fn points_and_colours_below_a_reference(rt: HostRuntime) -> Result<(), Fail> {
+    let alloc = rt.alloc();
+    // A reference, a line in the file that it refers to, and the line where the reference puts it.
+    for (outer, inner, carried) in [
+        (
+            "1 16 0 0 0 .333333 0 0 0 1 0 0 0 1 b.ldr",
+            "2 24 1.5 0 0 0 0 0",
+            "2 24 .5 0 0 0 0 0",
+        ),
+        (
+            "1 16 0 0 0 3 0 0 0 1 0 0 0 1 a.ldr",
+            "2 24 .5 0 0 0 0 0",
+            "2 24 1.5 0 0 0 0 0",
+        ),
+        (
+            "1 4 1 2 3 0 0 0 0 0 0 0 0 0 b.ldr",
+            "3 16 5 0 0 0 5 0 0 0 5",
+            "3 16 1 2 3 1 2 3 1 2 3",
+        ),
+        (
+            "1 16 1000000 0 0 1 0 0 0 1 0 0 0 1 s.ldr",
+            "2 16 0 0 0 -1 0 0",
+            "2 16 1000000 0 0 999999 0 0",
+        ),
+        (
+            "1 16 0 1 0 -1 0 0 0 1 0 0 0 1 s.ldr",
+            "4 16 0 0 0 1 0 0 1 1 0 0 1 0",
+            "4 16 0 1 0 -1 1 0 -1 2 0 0 2 0",
+        ),
+        (
+            "1 16 0 0 0 0 1 0 1 0 0 0 0 1 s.ldr",
+            "5 16 1 2 3 4 5 6 7 8 9 10 11 12",
+            "5 16 2 1 3 5 4 6 8 7 9 11 10 12",
+        ),
+    ] {
+        let outer = outer_of(alloc, outer, NEUTRAL)?;
+        let inner = entry_of(alloc, inner, Colour::Edge)?;
+        let colour = if outer.colour == Colour::Main {
+            Colour::Edge
+        } else {
+            Colour::EdgeOf(4)
+        };
+        assert_eq!(rt;
+            carry(&outer, &inner),
+            Ok(entry_of(alloc, carried, colour)?)
+        );
+    }
+    let outer = outer_of(alloc, "1 16 1000000 0 0 1 0 0 0 1 0 0 0 1 s.ldr", NEUTRAL)?;
+    let inner = entry_of(alloc, "3 16 0 0 0 1 0 0 0 1 0", Colour::Main)?;
+    let range = Fault {
+        what: What::Range,
+        source: ABOVE,
+    };
+    assert_eq!(rt; carry(&outer, &inner), Err(range));
+    let part = Entry::Part {
+        file: TextId(2),
+        colour: Colour::Main,
+        source: HERE,
+    };
+    assert_eq!(rt; carry(&outer, &part), Ok(part));
+    assert!(rt; size_of::<Entry>() <= 120);
+    Ok(())
+}
+
+#[test]
+fn culling_below_a_reference(rt: HostRuntime) -> Result<(), Fail> {
+    let alloc = rt.alloc();
+    let inner = entry_of(alloc, "2 24 0 0 0 1 0 0", Colour::Code(1))?;
+    for below in [
+        Below {
+            enable: false,
+            ..NEUTRAL
+        },
+        Below {
+            clip: false,
+            ..NEUTRAL
+        },
+        Below {
+            invert: true,
+            ..NEUTRAL
+        },
+    ] {
+        let outer = outer_of(alloc, "1 4 0 0 0 1 0 0 0 1 0 0 0 1 s.ldr", below)?;
+        let once = carry(&outer, &inner);
+        let Ok(
+            Entry::Drawn {
+                certified,
+                clip,
+                winding,
+                colour,
+                ..
+            },
+        ) = once
+        else {
+            return Err("out of range".into());
+        };
+        assert_eq!(rt; (certified, clip), (below.enable, below.clip));
+        assert_eq!(rt; winding == Winding::Cw, below.invert);
+        assert_eq!(rt; colour, Colour::Code(1));
+    }
+    Ok(())
+}
+
+fn crosses_threads<T: Send + Sync>() {}
+
+// What workers are lent or hand back crosses threads.
+fn types_cross_threads() {
+    crosses_threads::<Entry>();
+    crosses_threads::<Fault>();
+    crosses_threads::<Outer>();
+}
+
+// Points and colours below references, by the definition.
+fn points_and_colours()
+    ensures rounding_at_each_reference { RoundingAtEachReference }
+    ensures matrix_of_zeros { MatrixOfZeros }
+    ensures colours { Colours }
+    ensures direct_colours { DirectColours }
+{}
+
+// A model of parts, and chains of texts.
+fn models()
+    ensures first_of_an_ordinary_model { FirstOfAnOrdinaryModel }
+    ensures ends_of_an_ordinary_model { EndsOfAnOrdinaryModel }
+    ensures chain_of64 { ChainOf64 }
+    ensures chain_of65 { ChainOf65 }
+{}
+
+// Back face culling below references.
+fn culling()
+    ensures invertnext_and_mirror { InvertnextAndMirror }
+    ensures mirror_alone { MirrorAlone }
+    ensures certification_passed { CertificationPassed }
+    ensures certification_stopped { CertificationStopped }
+    ensures certification_refused { CertificationRefused }
+    ensures clip_and_winding { ClipAndWinding }
+{}
+
+// Faults, limits, and texts that give nothing.
+fn faults_and_limits()
+    ensures cycle_from_the_first { CycleFromTheFirst }
+    ensures cycle_from_the_second { CycleFromTheSecond }
+    ensures reference_to_itself { ReferenceToItself }
+    ensures earlier_fault_from_outside { EarlierFaultFromOutside }
+    ensures no_fault_from_outside { NoFaultFromOutside }
+    ensures one_too_many { OneTooMany }
+    ensures as_many_as_allowed { AsManyAsAllowed }
+    ensures one_entry_allowed { OneEntryAllowed }
+    ensures only_entry_allowed { OnlyEntryAllowed }
+    ensures depth_of_one { DepthOfOne }
+    ensures depth_of_two { DepthOfTwo }
+    ensures depth_of_three { DepthOfThree }
+    ensures root_without_lines { RootWithoutLines }
+    ensures absent_root { AbsentRoot }
+    ensures unknown_root { UnknownRoot }
+    ensures reference_without_file { ReferenceWithoutFile }
+    ensures no_line_type { NoLineType }
+    ensures name_without_normal_form { NameWithoutNormalForm }
+    ensures number_out_of_range { NumberOutOfRange }
+{}
