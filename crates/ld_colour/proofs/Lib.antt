@@ -1,1 +1,4 @@
 mod Lawful
+mod LineCount
+mod Rests
+mod Tables

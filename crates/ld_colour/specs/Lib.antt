@@ -1,2 +1,4 @@
 pub mod Colour
+pub mod Definition
 pub mod Laws
+pub mod Table

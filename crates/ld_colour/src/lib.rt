@@ -3,9 +3,14 @@
 #![tactic(auto)]
 
 mod colour;
+mod definition;
 mod laws;
+mod table;
+#[cfg(test)]
+mod table_tests;
 #[cfg(test)]
 mod tests;
 
 pub use colour::{Colour, colour_of, edge, under};
 pub use laws::{lawful_colours, under_laws};
+pub use table::{Table, TableError};

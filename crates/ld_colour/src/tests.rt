@@ -4,7 +4,7 @@ ghost use Rattle.ld_colour.specs.Colour.{colour_of, edge, under};
 ghost use Rattle.ld_colour.specs.declared.colour.Colour.TheVariants.{Code, Direct, Edge, EdgeOf, Main};
 
 use crate::Colour::{self, Code, Direct, Edge, EdgeOf, Main};
-use crate::{colour_of, edge, under};
+use crate::{Table, TableError, colour_of, edge, under};
 
 const WORDS: [(u32, Colour); 12] = [
     (0, Code(0)),
@@ -55,6 +55,8 @@ fn crosses_threads<T: Send + Sync>() {}
 #[test]
 fn types_cross_threads() {
     crosses_threads::<Colour>();
+    crosses_threads::<Table>();
+    crosses_threads::<TableError>();
 }
 
 // The definitions, by computing.

@@ -1,0 +1,100 @@
+-- Tables of colours: Colour Definition Language Extension. That the last definition of a code counts, and that an EDGE
+-- code is looked up in the whole file, is this project's own.
+use Rattle.std.specs.Prelude.{◌≡◌, ◌≢◌, ◌+◌, ◌==◌, ℕ, List, [], ◌∷◌, map, Option, Some, None, Result, Ok, Err, if◌then◌else◌}
+use Rattle.std.specs.BTreeMap.{is_at}
+use Rattle.std.specs.Map.{lookup}
+use Rattle.std.specs.Ordering.{nat_cmp}
+use Rattle.ld_line.specs.Cut.{lines_of}
+use Rattle.ld_colour.specs.declared.colour.Colour.{Colour}
+use Rattle.ld_colour.specs.declared.colour.Colour.TheVariants.{Main, Edge, Code, EdgeOf, Direct}
+use Rattle.ld_colour.specs.declared.definition.ColourLine.{ColourLine}
+use Rattle.ld_colour.specs.declared.definition.ColourLine.TheVariants.{Other, Bad, Defines}
+use Rattle.ld_colour.specs.declared.definition.DefinedEdge.{DefinedEdge}
+use Rattle.ld_colour.specs.declared.definition.DefinedEdge.TheVariants.{Value, ValueOf}
+use Rattle.ld_colour.specs.declared.definition.Definition.{Definition}
+use Rattle.ld_colour.specs.declared.table.Table.{Table}
+use Rattle.ld_colour.specs.declared.table.TableError.{TableError}
+use Rattle.ld_colour.specs.declared.table.TableError.TheVariants.{BadColour, Memory}
+use Rattle.ld_colour.specs.Definition.{colour_line}
+
+-- the definition that counts for each code
+abbrev pub Counting : Type 0
+Counting = ℕ → Option Definition
+
+abbrev pub counting : Table → Counting
+counting table code = lookup (is_at (nat_cmp code)) table
+
+-- the first that is there
+abbrev pub or_else : Option Definition → Option Definition → Option Definition
+or_else (Some definition) other = Some definition
+or_else None other = other
+
+-- the last definition of a code among those of a file, in order
+abbrev pub last_of : List (ℕ × Definition) → Counting
+last_of [] code = None
+last_of (defined ∷ more) code = or_else (last_of more code) (if defined.0 == code then Some defined.1 else None)
+
+abbrev pub onto_definitions : ℕ × Definition → Result (List (ℕ × Definition)) ℕ → Result (List (ℕ × Definition)) ℕ
+onto_definitions defined (Ok more) = Ok (defined ∷ more)
+onto_definitions defined (Err number) = Err number
+
+-- the definitions of lines that are numbered from here on, or the number of the first bad line
+abbrev pub definitions_from : ℕ → List ColourLine → Result (List (ℕ × Definition)) ℕ
+definitions_from number [] = Ok []
+definitions_from number (Other ∷ lines) = definitions_from (number + 1) lines
+definitions_from number (Bad ∷ lines) = Err number
+definitions_from number (Defines code definition ∷ lines) = onto_definitions (code, definition) (definitions_from (number + 1) lines)
+
+-- the definitions of a colour file in order, or the number of its first bad line
+unfoldable pub definitions_of : List ℕ → Result (List (ℕ × Definition)) ℕ
+definitions_of bytes = definitions_from 1 (map colour_line (lines_of bytes))
+
+abbrev pub tabled : Result (List (ℕ × Definition)) ℕ → Result Counting ℕ
+tabled (Ok definitions) = Ok (last_of definitions)
+tabled (Err number) = Err number
+
+-- what counts after a colour file, or the number of its first bad line
+abbrev pub table_in : List ℕ → Result Counting ℕ
+table_in bytes = tabled (definitions_of bytes)
+
+-- why a colour file is refused: its first bad line, or want of memory for its lines
+abbrev pub IsRefused : List ℕ → TableError → Type 0
+IsRefused bytes (BadColour number) = table_in bytes ≡ Err number
+IsRefused bytes Memory = lines_of bytes ≢ []
+
+abbrev pub value_by : Option Definition → Option ℕ
+value_by None = None
+value_by (Some definition) = Some definition.value
+
+abbrev pub value_in : Counting → ℕ → Option ℕ
+value_in table code = value_by (table code)
+
+abbrev pub edge_by : Counting → DefinedEdge → Option ℕ
+edge_by table (Value value) = Some value
+edge_by table (ValueOf code) = value_in table code
+
+abbrev pub edge_of : Counting → Option Definition → Option ℕ
+edge_of table None = None
+edge_of table (Some definition) = edge_by table definition.edge
+
+abbrev pub edge_in : Counting → ℕ → Option ℕ
+edge_in table code = edge_of table (table code)
+
+-- red, green and blue of a colour; the main colour and the edge colour are looked up by their words
+unfoldable pub rgb_in : Counting → Colour → Option ℕ
+rgb_in table Main = value_in table 16
+rgb_in table Edge = value_in table 24
+rgb_in table (Code code) = value_in table code
+rgb_in table (EdgeOf code) = edge_in table code
+rgb_in table (Direct value) = Some value
+
+-- what counts so far, overruled by further definitions
+abbrev pub overruled : Counting → Result (List (ℕ × Definition)) ℕ → Result Counting ℕ
+overruled so_far (Ok definitions) = Ok (λ code. or_else (last_of definitions code) (so_far code))
+overruled so_far (Err number) = Err number
+
+-- a line with a number brings what counts to what counts then, whatever lines follow
+abbrev pub IsStep : Counting → Counting → ℕ → List ℕ → Result (Unit {0}) TableError → Type 0
+IsStep so_far after number line (Ok done) = (lines : List ColourLine) → overruled so_far (definitions_from number (colour_line line ∷ lines)) ≡ overruled after (definitions_from (number + 1) lines)
+IsStep so_far after number line (Err (BadColour bad)) = (bad ≡ number) × (colour_line line ≡ Bad)
+IsStep so_far after number line (Err Memory) = Unit {0}
