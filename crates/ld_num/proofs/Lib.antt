@@ -4,5 +4,6 @@ pub mod Nearest
 pub mod Plain
 pub mod Printed
 pub mod Scanned
+pub mod Shorts
 pub mod Sizes
 pub mod Values

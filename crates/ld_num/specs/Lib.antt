@@ -3,4 +3,5 @@ pub mod Front
 pub mod Number
 pub mod Placing
 pub mod Scan
+pub mod Short
 pub mod Text

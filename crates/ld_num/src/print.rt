@@ -1,6 +1,8 @@
-ghost use Rattle.std.specs.Prelude.{◌≡◌, ◌+◌, ◌%◌, ◌≤◌, ◌++◌, length, OnOk, OnErr};
+ghost use Rattle.std.specs.Prelude.{◌≡◌, ◌+◌, ◌-◌, ◌^◌, ◌<◌, ◌≤◌, ◌==◌, ◌++◌, length, OnOk, OnErr};
+ghost use Rattle.std.specs.List.{suffix_len};
 ghost use Rattle.ld_num.specs.Number.{dec_of};
 ghost use Rattle.ld_num.specs.Text.{after_period, dec_text, sign_text, six_digits, without_last_zeros};
+ghost use Rattle.ld_num.specs.Short.{short_text, three_digits, window};
 
 use crate::Dec;
 use itoa::Buffer;
@@ -10,11 +12,56 @@ const MILLION: u64 = 1_000_000;
 
 /// Appends a number in decimals: `-` where it is negative, the whole part without leading zeros, and, where there is
 /// a fraction, a period and its digits without trailing zeros. Zero is `0`.
-#[tactic(auto, using(crate::proofs::Printed::dec_again))]
+#[tactic(auto, using(crate::proofs::Printed::dec_again, crate::proofs::Shorts::dec_text_is))]
 pub fn print_dec(value: Dec, into: &mut Vec<u8>) -> Result<(), AllocError>
     ensures ok { OnOk result (into.new.items ≡ into.old.items ++ dec_text value) }
     ensures err { OnErr result (into.new.items ≡ into.old.items) }
     ensures read_back { dec_of (dec_text value) ≡ Ok value }
+{
+    let size = value.millionths().unsigned_abs();
+    if size < 1_000 * MILLION {
+        print_short(size, value.millionths() < 0, into)
+    } else {
+        print_long(value, into)
+    }
+}
+
+// A size below a thousand, whose text has few forms, is appended at once.
+fn print_short(size: u64, is_negative: bool, into: &mut Vec<u8>) -> Result<(), AllocError>
+    requires { size < 10 ^ 9 }
+    ensures ok { OnOk result (into.new.items ≡ into.old.items ++ short_text is_negative size) }
+    ensures err { OnErr result (into.new.items ≡ into.old.items) }
+{
+    let [h, t, u] = three_digits((size / MILLION) as u32);
+    let places = places_of(size);
+    let count = kept(&places);
+    let [a, b, c, d, e, f] = places;
+    if size >= 100 * MILLION {
+        let text = [b'-', h, t, u, b'.', a, b, c, d, e, f];
+        into.extend_from_slice(window(&text, 4, count, is_negative))
+    } else if size >= 10 * MILLION {
+        let text = [b'-', t, u, b'.', a, b, c, d, e, f];
+        into.extend_from_slice(window(&text, 3, count, is_negative))
+    } else {
+        let text = [b'-', u, b'.', a, b, c, d, e, f];
+        into.extend_from_slice(window(&text, 2, count, is_negative))
+    }
+}
+
+// Of a minus, the whole part, a period and the fraction: what is printed.
+fn window(text: &[u8], point: usize, count: usize, is_negative: bool) -> &[u8]
+    requires point { 1 ≤ point }
+    requires within { point + 1 + count ≤ length text.now }
+    ensures { result.now ≡ window text.now point count is_negative }
+{
+    let start = usize::from(!is_negative);
+    let end = if count == 0 { point } else { point + 1 + count };
+    &text[start..end]
+}
+
+fn print_long(value: Dec, into: &mut Vec<u8>) -> Result<(), AllocError>
+    ensures ok { OnOk result (into.new.items ≡ into.old.items ++ dec_text value) }
+    ensures err { OnErr result (into.new.items ≡ into.old.items) }
 {
     let size = value.millionths().unsigned_abs();
     let sign = sign_of(value);
@@ -44,34 +91,46 @@ fn period_before(digits: &[u8]) -> &'static [u8]
 }
 
 // The six digits of the millionths.
+#[tactic(auto, using(crate::proofs::Shorts::six_by_threes))]
 fn places_of(size: u64) -> [u8; 6]
     ensures { result ≡ six_digits size }
 {
-    [
-        digit(size / 100_000),
-        digit(size / 10_000),
-        digit(size / 1_000),
-        digit(size / 100),
-        digit(size / 10),
-        digit(size),
-    ]
+    let rest = (size % MILLION) as u32;
+    let [a, b, c] = three_digits(rest / 1_000);
+    let [d, e, f] = three_digits(rest % 1_000);
+    [a, b, c, d, e, f]
 }
 
-// The last digit.
-#[inline(always)]
-fn digit(number: u64) -> u8
-    ensures { result ≡ 48 + number % 10 }
+fn three_digits(number: u32) -> [u8; 3]
+    requires { number < 1000 }
+    ensures { result ≡ three_digits number }
 {
-    b'0' + (number % 10) as u8
+    let tens = number / 10;
+    [digit(tens / 10), digit(tens % 10), digit(number % 10)]
 }
 
-// The digits up to the last that is not zero.
+#[inline(always)]
+fn digit(number: u32) -> u8
+    requires { number < 10 }
+    ensures { result ≡ 48 + number }
+{
+    b'0' + number as u8
+}
+
 fn trimmed(digits: &[u8]) -> &[u8]
     ensures { result.now ≡ without_last_zeros digits.now }
+{
+    &digits[..kept(digits)]
+}
+
+// How many digits there are up to the last that is not zero.
+fn kept(digits: &[u8]) -> usize
+    ensures count { result ≡ length digits.now - suffix_len (λ b. b == 48) digits.now }
+    ensures within { result ≤ length digits.now }
 {
     let mut count = digits.len();
     while count > 0 && digits[count - 1] == b'0' {
         count -= 1;
     }
-    &digits[..count]
+    count
 }

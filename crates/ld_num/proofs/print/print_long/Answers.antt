@@ -1,7 +1,7 @@
 use Rattle.std.proofs.Common.{◌≡◌, List, ℕ, ℤ, ◌++◌, ◌/◌, ◌^◌, unsigned_abs, append_assoc, rules, Result, Ok, Err, is_ok, cond, OnOk}
 use Rattle.std.specs.Fmt.{decimal}
 use Rattle.ld_num.specs.Text.{dec_text, sign_text, after_period, without_last_zeros, six_digits}
-use Rattle.ld_num.proofs.print.print_dec.Goals as goal
+use Rattle.ld_num.proofs.print.print_long.Goals as goal
 
 joined : (z : ℤ) (old s w p d : List ℕ) → s ≡ sign_text z → w ≡ decimal (unsigned_abs z / 10 ^ 6) → d ≡ without_last_zeros (six_digits (unsigned_abs z)) → p ++ d ≡ after_period d → (((old ++ s) ++ w) ++ p) ++ d ≡ old ++ dec_text z
 unfolding dec_text

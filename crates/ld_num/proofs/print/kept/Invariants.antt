@@ -1,6 +1,6 @@
 use Rattle.std.proofs.Common.{◌≡◌, ◌+◌, ◌≤◌, length, take, ◌==◌}
 use Rattle.std.specs.List.{suffix_len}
-use Rattle.ld_num.proofs.print.trimmed.Given as goal
+use Rattle.ld_num.proofs.print.kept.Given as goal
 
 abbrev pub invariant-loop-count : goal.invariant-loop-count
 invariant-loop-count l = record {

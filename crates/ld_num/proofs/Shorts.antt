@@ -1,0 +1,74 @@
+-- Short numbers, put together from their digits.
+use Rattle.std.proofs.Common.{◌≡◌, ℕ, zero, suc, ◌+◌, ◌-◌, ◌/◌, ◌%◌, ◌^◌, ◌<◌, ◌≤◌, Bool, true, false, List, [], ◌∷◌, ◌++◌, length, take, ℤ, pos, negsuc, int_lt, nat_lt, ◌==◌, unsigned_abs, arith, refl, sym, ◌∙◌, ap, append-nil}
+use Rattle.std.specs.Fmt.{decimal}
+use Rattle.std.specs.List.{suffix_len}
+use Rattle.std.proofs.Math.Seq.{take-append-add, take-append_seam}
+use Rattle.std.proofs.lemmas.Bool.Decides.{nat_tests}
+use Rattle.std.proofs.lemmas.Fmt.{decimal_digit, decimal_step}
+use Rattle.ld_num.specs.Front.{minus_if}
+use Rattle.ld_num.specs.Short.{short_text, three_digits, window}
+use Rattle.ld_num.specs.Text.{after_period, dec_text, sign_text, six_digits, without_last_zeros}
+
+sign_is : (z : ℤ) → sign_text z ≡ minus_if (int_lt z (pos 0))
+sign_is (pos n) =
+    let e : nat_lt n 0 ≡ false = grind (arith, nat_tests) in rw e refl
+sign_is (negsuc n) = refl
+
+pub dec_text_is : (z : ℤ) → dec_text z ≡ short_text (int_lt z (pos 0)) (unsigned_abs z)
+unfolding dec_text
+dec_text_is z =
+    ap (λ sign. sign ++ decimal (unsigned_abs z / 10 ^ 6) ++ after_period (without_last_zeros (six_digits (unsigned_abs z)))) (sign_is z)
+
+pub six_by_threes : (size : ℕ) → three_digits (size % 1000000 / 1000) ++ three_digits (size % 1000000 % 1000) ≡ six_digits size
+six_by_threes size =
+    let a : size % 1000000 / 1000 / 10 / 10 ≡ size / 100000 % 10 = omega arith in
+    let b : size % 1000000 / 1000 / 10 % 10 ≡ size / 10000 % 10 = omega arith in
+    let c : size % 1000000 / 1000 % 10 ≡ size / 1000 % 10 = omega arith in
+    let d : size % 1000000 % 1000 / 10 / 10 ≡ size / 100 % 10 = omega arith in
+    let e : size % 1000000 % 1000 / 10 % 10 ≡ size / 10 % 10 = omega arith in
+    let f : size % 1000000 % 1000 % 10 ≡ size % 10 = omega arith in rw (a, b, c, d, e, f) refl
+
+-- ---- the whole part
+
+pub one_digit : (n : ℕ) → n < 10 → decimal n ≡ (48 + n % 10) ∷ []
+one_digit n h =
+    let e : n ≡ n % 10 = omega arith in decimal_digit n h ∙ ap (λ k. (48 + k) ∷ []) e
+
+pub two_digits : (n : ℕ) → 10 ≤ n → n < 100 → decimal n ≡ (48 + n / 10 % 10) ∷ (48 + n % 10) ∷ []
+two_digits n low high =
+    decimal_step n low (omega arith) ∙ ap (λ ds. ds ++ ((48 + n % 10) ∷ [])) (one_digit (n / 10) (omega arith))
+
+pub three_are : (n : ℕ) → 100 ≤ n → n < 1000 → decimal n ≡ three_digits n
+three_are n low high =
+    let e : n / 10 / 10 % 10 ≡ n / 10 / 10 = omega arith in
+    decimal_step n (omega arith) (omega arith) ∙ ap (λ ds. ds ++ ((48 + n % 10) ∷ [])) (two_digits (n / 10) (omega arith) (omega arith)) ∙ ap (λ k. (48 + k) ∷ (48 + n / 10 % 10) ∷ (48 + n % 10) ∷ []) e
+
+-- ---- the part of the text that is shown
+
+window_none : (is_negative : Bool) (ws rest : List ℕ) (point : ℕ) → point ≡ length ws + 1 → window (45 ∷ (ws ++ rest)) point 0 is_negative ≡ minus_if is_negative ++ ws ++ []
+window_none true ws rest point p =
+    let e : point - 0 ≡ suc (length ws) = omega arith in
+    rw e (ap (λ xs. 45 ∷ xs) (take-append_seam ws rest) ∙ sym (append-nil (45 ∷ ws)))
+window_none false ws rest point p =
+    let e : point - 1 ≡ length ws = omega arith in
+    rw e (take-append_seam ws rest ∙ sym (append-nil ws))
+
+window_some : (is_negative : Bool) (ws : List ℕ) (d : ℕ) (ds : List ℕ) (point k : ℕ) → point ≡ length ws + 1 → window (45 ∷ (ws ++ 46 ∷ d ∷ ds)) point (suc k) is_negative ≡ minus_if is_negative ++ ws ++ 46 ∷ d ∷ take k ds
+window_some true ws d ds point k p =
+    let test : (suc k == 0) ≡ false = grind (arith, nat_tests) in
+    let e : point + 1 + suc k - 0 ≡ suc (length ws + suc (suc k)) = omega arith in
+    rw (test, e) (ap (λ xs. 45 ∷ xs) (take-append-add ws (46 ∷ d ∷ ds) (suc (suc k))))
+window_some false ws d ds point k p =
+    let test : (suc k == 0) ≡ false = grind (arith, nat_tests) in
+    let e : point + 1 + suc k - 1 ≡ length ws + suc (suc k) = omega arith in
+    rw (test, e) (take-append-add ws (46 ∷ d ∷ ds) (suc (suc k)))
+
+-- what is shown of a minus, the whole part, a period and a fraction
+pub window_is : (is_negative : Bool) (ws : List ℕ) (d : ℕ) (ds : List ℕ) (point count : ℕ) → point ≡ length ws + 1 → window (45 ∷ (ws ++ 46 ∷ d ∷ ds)) point count is_negative ≡ minus_if is_negative ++ ws ++ after_period (take count (d ∷ ds))
+window_is is_negative ws d ds point zero p = window_none is_negative ws (46 ∷ d ∷ ds) point p
+window_is is_negative ws d ds point (suc k) p = window_some is_negative ws d ds point k p
+
+-- the text of a size whose whole part has these digits
+pub short_is : (is_negative : Bool) (size : ℕ) (ws : List ℕ) (point count : ℕ) → decimal (size / 1000000) ≡ ws → point ≡ length ws + 1 → count ≡ length (six_digits size) - suffix_len (λ b. b == 48) (six_digits size) → window (45 ∷ (ws ++ 46 ∷ six_digits size)) point count is_negative ≡ short_text is_negative size
+short_is is_negative size ws point count whole p k =
+    window_is is_negative ws (48 + size / 100000 % 10) ((48 + size / 10000 % 10) ∷ (48 + size / 1000 % 10) ∷ (48 + size / 100 % 10) ∷ (48 + size / 10 % 10) ∷ (48 + size % 10) ∷ []) point count p ∙ ap (λ n. minus_if is_negative ++ ws ++ after_period (take n (six_digits size))) k ∙ ap (λ ws. minus_if is_negative ++ ws ++ after_period (without_last_zeros (six_digits size))) (sym whole)
