@@ -8,7 +8,7 @@ use Rattle.ld_names.specs.declared.name.NameError.{NameError}
 use Rattle.ld_line.specs.Cut.{lines_of}
 use Rattle.ld_cmd.specs.declared.status.Status.{Status}
 use Rattle.ld_cmd.specs.declared.status.Status.TheVariants.{Done, Faulted, Usage, Input, ReadFault, WriteFault, Memory, Limit}
-use Rattle.ld_texts.specs.Learning.{Contents, limit_passed}
+use Rattle.ld_texts.specs.Learning.{limit_passed}
 use Rattle.ld_texts.specs.declared.change.Over.{Over}
 use Rattle.ld_texts.specs.declared.change.Over.TheVariants.{Files, Weight}
 use Rattle.ld_cmd.specs.Faces.{all_from, answer_of}
@@ -49,9 +49,12 @@ abbrev pub over_text : Over → List ℕ
 over_text (Files kept) = codes "full files " ++ decimal kept ++ codes "\n"
 over_text (Weight kept) = codes "full weight " ++ decimal kept ++ codes "\n"
 
--- no texts, under the limits of the command
-abbrev pub no_texts : Contents
-no_texts = record { known = []; max_files = 65535; max_weight = 268435456; room = 0 }
+-- how many files may be known, and how much their texts may weigh
+abbrev pub max_files : ℕ
+max_files = 65535
+
+abbrev pub max_weight : ℕ
+max_weight = 268435456
 
 -- the faces of a model by its name and its lines, where it passes no limit
 abbrev pub model_output : List ℕ → List (List ℕ) → Option Over → Output
@@ -60,7 +63,7 @@ model_output own lines (Some over) = record { bytes = over_text over; status = L
 
 -- the faces of a text
 abbrev pub faces_of : List ℕ → List ℕ → Output
-faces_of word bytes = model_output (own_name word) (lines_of bytes) (limit_passed no_texts (Some (lines_of bytes)))
+faces_of word bytes = model_output (own_name word) (lines_of bytes) (limit_passed max_files max_weight [] (Some (lines_of bytes)))
 
 -- the faces of the file that a word names
 abbrev pub faces_output : List ℕ → Option (List ℕ) → Output

@@ -1,2 +1,4 @@
 pub mod Files
 pub mod Index
+pub mod Learnt
+pub mod Places

@@ -1,72 +1,106 @@
 -- Learning a file: when it is refused, and what it changes. The limits are this project's own.
-use Rattle.std.specs.Prelude.{◌≡◌, ◌≤◌, ◌+◌, ◌++◌, ◌==◌, ℕ, [], ◌∷◌, length, Option, Some, None, Result, Ok, Err, if◌then◌else◌, nat_lt, ⊤}
+use Rattle.std.specs.Prelude.{◌≡◌, ◌≤◌, ◌+◌, ◌++◌, ◌==◌, ℕ, Bool, true, [], ◌∷◌, List, length, Option, Some, None, option_map, Result, Ok, Err, if◌then◌else◌, bytes_eq, nat_lt}
+use Rattle.std.specs.List.{list_any}
+use Rattle.std.specs.Option.{option_or}
 use Rattle.ld_names.specs.declared.file.FileId.{FileId}
 use Rattle.ld_names.specs.Standing.{Known, Text}
-use Rattle.ld_texts.specs.Known.{id_of, weight_of, weight_of_text}
+use Rattle.ld_texts.specs.Known.{file_at, id_of, lines_at, weight_of, weight_of_text}
 use Rattle.ld_texts.specs.declared.change.Change.{Change}
 use Rattle.ld_texts.specs.declared.change.LearnError.{LearnError}
 use Rattle.ld_texts.specs.declared.change.LearnError.TheVariants.{Full, Memory}
 use Rattle.ld_texts.specs.declared.change.Over.{Over}
 use Rattle.ld_texts.specs.declared.change.Over.TheVariants.{Files, Weight}
+use Rattle.ld_texts.specs.declared.change.Turned.{Turned}
 use Rattle.ld_texts.specs.declared.change.Turned.TheVariants.{Learnt}
 
--- the known files, how many there may be, how much their texts may weigh, and how many more files can be learnt
--- without memory
-pub record Contents : Type 0 where
+-- the known files, how many there may be and how much their texts may weigh; and the memory that is taken: how many
+-- more files there is room for, and which names have a place where their numbers are looked up
+pub record Texts : Type 0 where
   pub known : Known
   pub max_files : ℕ
   pub max_weight : ℕ
   pub room : ℕ
+  pub places : List (List ℕ)
 
--- a change that is prepared: a file with its lines, or with None where it is absent
-pub data Prepared : Type 0 where
-  Learn : FileId → Text → Prepared
+-- the name has a place
+abbrev pub has_place : Texts → List ℕ → Bool
+has_place texts name = list_any (bytes_eq name) texts.places
+
+-- a change that is ready to be made: a file is learnt with its lines, or with None where it is absent
+pub data Ready : Type 0 where
+  Learn : FileId → Text → Ready
+
+-- the limit on the number of files, where one more would pass it
+abbrev pub files_passed : ℕ → Known → Option Over
+files_passed max_files known = if length known == max_files then Some (Files max_files) else None
 
 -- the limit on the weight, where a further text would pass it, with the weight that is kept
-abbrev pub weight_passed : Contents → Text → Option Over
-weight_passed texts text = if nat_lt texts.max_weight (weight_of texts.known + weight_of_text text) then Some (Weight (weight_of texts.known)) else None
+abbrev pub weight_passed : ℕ → Known → Text → Option Over
+weight_passed max_weight known text = if nat_lt max_weight (weight_of known + weight_of_text text) then Some (Weight (weight_of known)) else None
 
 -- the limit that a further file would pass: on the number of files before that on the weight
-abbrev pub limit_passed : Contents → Text → Option Over
-limit_passed texts text = if length texts.known == texts.max_files then Some (Files texts.max_files) else weight_passed texts text
+abbrev pub limit_passed : ℕ → ℕ → Known → Text → Option Over
+limit_passed max_files max_weight known text = option_or (files_passed max_files known) (weight_passed max_weight known text)
 
--- what is wanted where no limit is passed, else the limit, unless memory was lacking
+-- what is wanted, or the limit that is passed; memory is lacking only where none is
 abbrev pub GivesUnless : {A : Type 0} → Option Over → A → Result A LearnError → Type 0
 GivesUnless passed wanted (Ok given) = (given ≡ wanted) × (passed ≡ None)
 GivesUnless passed wanted (Err (Full over)) = passed ≡ Some over
-GivesUnless passed wanted (Err Memory) = ⊤
+GivesUnless passed wanted (Err Memory) = passed ≡ None
 
--- the files and the limits stay; the room does not shrink
-pub record KeepsTexts (old new : Contents) : Type 0 where
+-- the files and the limits stay; no room is lost
+pub record KeepsTexts (old new : Texts) : Type 0 where
   pub known : new.known ≡ old.known
   pub max_files : new.max_files ≡ old.max_files
   pub max_weight : new.max_weight ≡ old.max_weight
   pub room : old.room ≤ new.room
+  pub places : (name : List ℕ) → has_place old name ≡ true → has_place new name ≡ true
 
--- there is room for the change
-abbrev pub HasRoomFor : Contents → Prepared → Type 0
-HasRoomFor texts (Learn file text) = 1 ≤ texts.room
+-- the memory for the change is taken
+abbrev pub HasRoomFor : Texts → Ready → Type 0
+HasRoomFor texts (Learn file text) = (1 ≤ texts.room) × (has_place texts file.name ≡ true)
 
 -- the change is of no known file
-abbrev pub IsApt : Contents → Prepared → Type 0
-IsApt texts (Learn file text) = id_of texts.known file ≡ None
+abbrev pub IsApt : Known → Ready → Type 0
+IsApt known (Learn file text) = id_of known file ≡ None
 
 -- the change passes no limit
-abbrev pub Fits : Contents → Prepared → Type 0
-Fits texts (Learn file text) = limit_passed texts text ≡ None
+abbrev pub IsWithinLimits : Texts → Ready → Type 0
+IsWithinLimits texts (Learn file text) = limit_passed texts.max_files texts.max_weight texts.known text ≡ None
+
+-- the change can be made, without memory
+pub record CanCommit (texts : Texts) (ready : Ready) : Type 0 where
+  pub room : HasRoomFor texts ready
+  pub apt : IsApt texts.known ready
+  pub fits : IsWithinLimits texts ready
 
 -- what is known after a change
-abbrev pub known_after : Known → Prepared → Known
+abbrev pub known_after : Known → Ready → Known
 known_after known (Learn file text) = known ++ (file, text) ∷ []
 
--- what a change turned
-abbrev pub change_of : Known → Prepared → Change
-change_of known (Learn file text) = record { first = (record { 0 = length known }, Learnt); second = None }
+-- what turned a known file, by its number
+abbrev pub turned : Known → FileId → Turned → Option Change
+turned known file how = option_map (λ id. record { first = (record { 0 = id }, how); second = None }) (id_of known file)
+
+-- what a change turned, by the numbers of the files that are known after it
+abbrev pub change_of : Known → Ready → Option Change
+change_of known (Learn file text) = turned known file Learnt
+
+-- a learnt file has the next number, and stands there with its text
+pub record IsLearnt (old new : Known) (file : FileId) (text : Text) (id : ℕ) : Type 0 where
+  pub next : id ≡ length old
+  pub number : id_of new file ≡ Some id
+  pub file_there : file_at new id ≡ Some file
+  pub text_there : lines_at new id ≡ text
+
+-- where a change learns a file, it is learnt with this number
+abbrev pub LearnsAt : Known → Known → Ready → ℕ → Type 0
+LearnsAt old new (Learn file text) id = IsLearnt old new file text id
 
 -- the file that a change learns
-abbrev pub file_of : Prepared → Option FileId
-file_of (Learn file text) = Some file
+abbrev pub learnt_file : Ready → Option FileId
+learnt_file (Learn file text) = Some file
 
 -- the lines of the file that a change learns, where it is present
-abbrev pub lines_of : Prepared → Text
-lines_of (Learn file text) = text
+abbrev pub learnt_lines : Ready → Text
+learnt_lines (Learn file text) = text

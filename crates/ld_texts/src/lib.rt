@@ -2,7 +2,8 @@
 #![tactic(auto)]
 
 mod change;
-mod numbers;
+mod ids;
+mod laws;
 mod ready;
 #[cfg(test)]
 mod tests;
@@ -10,5 +11,6 @@ mod text;
 mod texts;
 
 pub use change::{Change, LearnError, Over, Turned};
+pub use laws::{learning_law, line_law, number_law, ready_law};
 pub use ready::Ready;
 pub use texts::Texts;

@@ -1,54 +1,50 @@
 ghost use Rattle.std.specs.Prelude.{◌≡◌};
 ghost use Rattle.std.specs.Option.{option_copied};
-ghost use Rattle.ld_texts.specs.Known.{weight_of_text};
-ghost use Rattle.ld_texts.specs.Learning.{file_of, lines_of};
+ghost use Rattle.ld_texts.specs.Learning.{learnt_file, learnt_lines};
 
-use crate::text::Text;
-use ld_names::{Bytes, FileId, Name};
+use crate::text::KnownText;
+use ld_names::{Bytes, FileId};
 use std::marker::Model;
 
-/// A change of `Texts` that is prepared: all the memory that it needs is taken.
+/// A change of `Texts` that is ready to be made: all the memory that it needs is taken.
 #[derive(Drop)]
 pub struct Ready {
-    pub(crate) file: FileId,
-    // A copy for the look-up by name.
-    pub(crate) name: Name,
-    pub(crate) text: Option<Text>,
+    pub(crate) prepared: Prepared,
+}
+
+#[derive(Drop)]
+pub(crate) enum Prepared {
+    File {
+        file: FileId,
+        text: Option<KnownText>,
+    },
 }
 
 impl Model for Ready {
-    ghost use Rattle.std.specs.Prelude.{◌≡◌};
-    ghost use Rattle.ld_texts.specs.Learning.{Prepared, Learn};
+    ghost use Rattle.ld_texts.specs.Learning.{Ready};
+    ghost use Rattle.ld_texts.specs.Inside.Made.{ready_of};
 
-    ghost Value = { Prepared };
+    ghost Value = { Ready };
 
-    ghost view = { λ ready. Learn ready.file ready.text };
-
-    ghost invariant = { λ ready. ready.name ≡ ready.file.name };
+    ghost view = { λ ready. ready_of ready.prepared };
 }
 
 impl Ready {
     /// The file that is learnt.
     pub fn learnt(&self) -> Option<&FileId>
-        ensures { option_copied result ≡ file_of self.now }
+        ensures { option_copied result ≡ learnt_file self.now }
     {
-        Some(&self.file)
+        match &self.prepared {
+            Prepared::File { file, .. } => Some(file),
+        }
     }
 
     /// The lines of the file that is learnt; `None` where it is absent.
     pub fn learnt_lines(&self) -> Option<&[Bytes]>
-        ensures { option_copied result ≡ lines_of self.now }
+        ensures { option_copied result ≡ learnt_lines self.now }
     {
-        Some(self.text.as_ref()?.lines())
-    }
-
-    // The weight of the text that is learnt.
-    pub(crate) fn weight(&self) -> u64
-        ensures { result ≡ weight_of_text (lines_of self.now) }
-    {
-        match &self.text {
-            None => 0,
-            Some(text) => text.weight(),
+        match &self.prepared {
+            Prepared::File { text, .. } => Some(text.as_ref()?.lines()),
         }
     }
 }

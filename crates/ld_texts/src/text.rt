@@ -1,25 +1,25 @@
-ghost use Rattle.std.specs.Prelude.{◌≡◌, ◌-◌, ◌^◌, IfOk, length, map, min};
+ghost use Rattle.std.specs.Prelude.{◌≡◌, ◌-◌, ◌^◌, length, map, min};
 ghost use Rattle.std.specs.Option.{option_copied};
 ghost use Rattle.ld_line.specs.Part.{is_part_by_header, is_part_text};
 ghost use Rattle.ld_line.specs.Reading.{line_of};
-ghost use Rattle.ld_texts.specs.Known.{numbered, weight_of_lines};
+ghost use Rattle.ld_texts.specs.Known.{numbered, weight_of_lines, weight_of_text};
 
-use ld_line::{Line, read_line};
+use ld_line::header_line;
 use ld_names::{Bytes, Folder, Lines};
-use std::alloc::{AllocError, Global};
 use std::marker::Model;
 
 // The lines of a present file, with what is asked of them often.
 #[derive(Drop)]
-pub(crate) struct Text {
+pub(crate) struct KnownText {
     lines: Lines,
     weight: u64,
-    part_by_header: bool,
+    // None where the folder alone tells that the text is a part text.
+    part_by_header: Option<bool>,
 }
 
-impl Model for Text {
+impl Model for KnownText {
     ghost use Rattle.std.specs.Prelude.{List, ℕ};
-    ghost use Rattle.ld_texts.specs.Inside.{IsMeasured};
+    ghost use Rattle.ld_texts.specs.Inside.Kept.{IsMeasured};
 
     ghost Value = { List (List ℕ) };
 
@@ -28,17 +28,20 @@ impl Model for Text {
     ghost invariant = { λ text. IsMeasured text.lines text.weight text.part_by_header };
 }
 
-impl Text {
-    pub(crate) fn new(alloc: Global, lines: Lines, weight: u64) -> Result<Text, AllocError>
+impl KnownText {
+    pub(crate) fn new(folder: Folder, lines: Lines, weight: u64) -> KnownText
         requires { weight ≡ weight_of_lines lines }
-        ensures { IfOk result (λ text. text ≡ lines) }
+        ensures { result ≡ lines }
     {
-        let part_by_header = part_by_header(alloc, lines.as_slice())?;
-        Ok(Text {
+        let part_by_header = match folder {
+            Folder::Model => Some(part_by_header(lines.as_slice())),
+            Folder::Parts | Folder::P => None,
+        };
+        KnownText {
             lines,
             weight,
             part_by_header,
-        })
+        }
     }
 
     pub(crate) fn lines(&self) -> &[Bytes]
@@ -64,15 +67,16 @@ impl Text {
     pub(crate) fn is_part(&self, folder: Folder) -> bool
         ensures { result ≡ is_part_text folder self.now }
     {
-        match folder {
-            Folder::Parts | Folder::P => true,
-            Folder::Model => self.part_by_header,
+        match (folder, self.part_by_header) {
+            (Folder::Parts | Folder::P, _) => true,
+            (Folder::Model, Some(part)) => part,
+            (Folder::Model, None) => part_by_header(self.lines.as_slice()),
         }
     }
 }
 
 // The weight of lines, or 2^64 - 1 where they weigh more.
-pub(crate) fn weight_of(lines: &[Bytes]) -> u64
+pub(crate) fn weigh(lines: &[Bytes]) -> u64
     ensures { result ≡ min (weight_of_lines lines.now) (2 ^ 64 - 1) }
 {
     let mut weight: u64 = 0;
@@ -84,16 +88,26 @@ pub(crate) fn weight_of(lines: &[Bytes]) -> u64
     weight
 }
 
+// The weight of a text, which is nothing where it is absent.
+pub(crate) fn weigh_text(text: &Option<KnownText>) -> u64
+    ensures { result ≡ weight_of_text text.now }
+{
+    match text {
+        None => 0,
+        Some(text) => text.weight(),
+    }
+}
+
 // Whether the first !LDRAW_ORG line names the type of a part.
-fn part_by_header(alloc: Global, lines: &[Bytes]) -> Result<bool, AllocError>
-    ensures { IfOk result (λ part. part ≡ is_part_by_header (map line_of lines.now)) }
+fn part_by_header(lines: &[Bytes]) -> bool
+    ensures { result ≡ is_part_by_header (map line_of lines.now) }
 {
     let mut rest = lines;
     while let [line, more @ ..] = rest {
-        if let Line::Org(part) = read_line(alloc, line.as_slice())? {
-            return Ok(part);
+        if let Some(part) = header_line(line.as_slice()) {
+            return part;
         }
         rest = more;
     }
-    Ok(false)
+    false
 }

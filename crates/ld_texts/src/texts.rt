@@ -1,17 +1,17 @@
-ghost use Rattle.std.specs.Prelude.{◌≡◌, ◌<◌, ◌≤◌, ◌^◌, [], IfOk, IfSome, length, option_map};
-ghost use Rattle.std.specs.List.{IsDistinct};
-ghost use Rattle.std.specs.Option.{is_some, option_copied};
-ghost use Rattle.ld_names.specs.Standing.{same_file};
-ghost use Rattle.ld_texts.specs.Known.{file_at, files_of, id_of, is_part_at, line_at, lines_at, weight_of};
-ghost use Rattle.ld_texts.specs.Learning.{Fits, HasRoomFor, IsApt, KeepsTexts, Learn, GivesUnless, change_of, known_after, limit_passed, weight_passed};
+ghost use Rattle.std.specs.Prelude.{◌≡◌, ◌<◌, ◌≤◌, ◌^◌, [], IfOk, IfSome, OnOk, Some, None, length, option_map, true};
+ghost use Rattle.std.specs.BTreeMap.{get, is_at};
+ghost use Rattle.std.specs.Option.{is_some, option_copied, unwrap_or};
+ghost use Rattle.ld_texts.specs.Known.{AreDistinct, file_at, id_of, is_part_at, line_at, lines_at, weight_of};
+ghost use Rattle.ld_texts.specs.Learning.{CanCommit, KeepsTexts, Learn, LearnsAt, GivesUnless, change_of, has_place, known_after, limit_passed, weight_passed};
+ghost use Rattle.ld_names.specs.declared.file.FileId.{FileId};
 
 use crate::change::{Change, LearnError, Over, Turned};
-use crate::numbers::Numbers;
-use crate::ready::Ready;
-use crate::text::{Text, weight_of};
-use indexmap::IndexMap;
-use ld_names::{FileId, Folder, Lines, Name, TextId};
-use std::alloc::Global;
+use crate::ids::Ids;
+use crate::ready::{Prepared, Ready};
+use crate::text::{KnownText, weigh, weigh_text};
+use ld_names::{FileId, Folder, Lines, Name, TextId, file_laws};
+use std::alloc::{AllocError, Global};
+use std::collections::BTreeMap;
 use std::marker::Model;
 
 /// The known files in the order in which they became known, each with its lines or known to be
@@ -19,39 +19,43 @@ use std::marker::Model;
 #[derive(Drop)]
 pub struct Texts {
     alloc: Global,
-    files: Vec<(FileId, Option<Text>)>,
-    numbers: IndexMap<Name, Numbers>,
+    files: Vec<(FileId, Option<KnownText>)>,
+    // By name; a name has its place here before its file is learnt. Ordered, since whoever writes
+    // the files picks their names.
+    ids: BTreeMap<Name, Ids>,
     max_files: u32,
     max_weight: u64,
     weight: u64,
 }
 
 impl Model for Texts {
-    ghost use Rattle.ld_texts.specs.Learning.{Contents};
-    ghost use Rattle.std.specs.Prelude.{◌-◌, length, min};
+    ghost use Rattle.ld_texts.specs.Learning.{Texts};
+    ghost use Rattle.std.specs.Prelude.{◌-◌, length};
     ghost use Rattle.std.specs.Vec.{vec_capacity};
-    ghost use Rattle.indexmap.specs.IndexMap.{spare};
-    ghost use Rattle.ld_texts.specs.Inside.{IsIndex, IsWithin};
+    ghost use Rattle.ld_texts.specs.Inside.Found.{IsIndex, names_of};
+    ghost use Rattle.ld_texts.specs.Inside.Kept.{IsWithin};
 
-    ghost Value = { Contents };
+    ghost Value = { Texts };
 
-    ghost view = { λ texts. record { known = texts.files.items; max_files = texts.max_files; max_weight = texts.max_weight; room = min (vec_capacity texts.files - length texts.files.items) (spare texts.numbers) } };
+    ghost view = { λ texts. record { known = texts.files.items; max_files = texts.max_files; max_weight = texts.max_weight; room = vec_capacity texts.files - length texts.files.items; places = names_of texts.ids.entries } };
 
-    ghost invariant = { λ texts. IsWithin texts.files.items texts.weight texts.max_files texts.max_weight × IsIndex texts.files.items texts.numbers.entries };
+    ghost invariant = { λ texts. IsWithin texts.files.items texts.weight texts.max_files texts.max_weight × IsIndex texts.files.items texts.ids.entries };
 }
 
 impl Texts {
     /// Texts of which nothing is known, for at most so many files, whose texts weigh at most so much.
+    #[tactic(auto, unfolding(crate::specs::Known::id_of))]
     pub fn new(alloc: Global, max_files: u32, max_weight: u64) -> Texts
         requires { max_weight < 2 ^ 37 }
         ensures nothing_known { result.known ≡ [] }
+        ensures no_file { (file : FileId) → id_of result.known file ≡ None }
         ensures max_files { result.max_files ≡ max_files }
         ensures max_weight { result.max_weight ≡ max_weight }
     {
         Texts {
             alloc,
             files: Vec::new(alloc),
-            numbers: IndexMap::new(alloc),
+            ids: BTreeMap::new(alloc),
             max_files,
             max_weight,
             weight: 0,
@@ -69,11 +73,12 @@ impl Texts {
     pub fn at(&self, folder: Folder, name: &Name) -> Option<TextId>
         ensures { option_map (λ id. id.0) result ≡ id_of self.now.known (record { folder = folder; name = name.now }) }
     {
-        let number = self.numbers.get(name)?.at(folder)?;
-        Some(TextId(number))
+        let id = self.ids.get(name)?.at(folder)?;
+        Some(TextId(id))
     }
 
     /// The file with this number.
+    #[tactic(auto, unfolding(crate::specs::Known::file_at))]
     pub fn file(&self, id: TextId) -> Option<&FileId>
         ensures { option_copied result ≡ file_at self.now.known id.0 }
     {
@@ -105,6 +110,7 @@ impl Texts {
 
     /// Whether the file is present and its text is a part text: it lies in the library, or its first
     /// `!LDRAW_ORG` line names the type of a part (Official Library Header Specification).
+    #[tactic(auto, unfolding(crate::specs::Known::is_part_at))]
     pub fn is_part(&self, id: TextId) -> bool
         ensures { result ≡ is_part_at self.now.known id.0 }
     {
@@ -118,7 +124,7 @@ impl Texts {
     pub fn known(&self) -> u32
         ensures count { result ≡ length self.now.known }
         ensures within { result ≤ self.now.max_files }
-        ensures distinct { IsDistinct same_file (files_of self.now.known) }
+        ensures distinct { AreDistinct self.now.known }
     {
         self.files.len() as u32
     }
@@ -134,60 +140,89 @@ impl Texts {
     /// Takes the memory that is needed to learn a file with its lines, or as absent.
     pub fn prepare_file(&mut self, file: &FileId, lines: Option<Lines>) -> Result<Ready, LearnError>
         requires { id_of self.old.known file.now ≡ None }
-        ensures result { GivesUnless (limit_passed self.old lines) (Learn file.now lines) result }
-        ensures room { IfOk result (HasRoomFor self.new) }
+        ensures result { GivesUnless (limit_passed self.old.max_files self.old.max_weight self.old.known lines) (Learn file.now lines) result }
+        ensures ready { IfOk result (CanCommit self.new) }
         ensures same { KeepsTexts self.old self.new }
     {
         if self.known() == self.max_files {
             return Err(LearnError::Full(Over::Files(self.max_files)));
         }
-        let text = self.measured(lines)?;
+        let text = self.measured(file.folder, lines)?;
         self.files.reserve(1)?;
-        self.numbers.reserve(1)?;
-        let name = file.name.copy(self.alloc)?;
+        self.give_place(&file.name)?;
         let file = file.copy(self.alloc)?;
-        Ok(Ready { file, name, text })
+        Ok(Ready {
+            prepared: Prepared::File { file, text },
+        })
     }
 
     // The lines as a text, where the limit on the weight is not passed.
-    fn measured(&self, lines: Option<Lines>) -> Result<Option<Text>, LearnError>
-        ensures { GivesUnless (weight_passed self.now lines) lines result }
+    fn measured(
+        &self,
+        folder: Folder,
+        lines: Option<Lines>,
+    ) -> Result<Option<KnownText>, LearnError>
+        ensures { GivesUnless (weight_passed self.now.max_weight self.now.known lines) lines result }
     {
         let left = self.max_weight - self.weight;
         let Some(lines) = lines else {
             return Ok(None);
         };
-        let weight = weight_of(lines.as_slice());
+        let weight = weigh(lines.as_slice());
         if weight > left {
             return Err(LearnError::Full(Over::Weight(self.weight)));
         }
-        Ok(Some(Text::new(self.alloc, lines, weight)?))
+        Ok(Some(KnownText::new(folder, lines, weight)))
     }
 
-    /// Makes a prepared change.
+    // Gives the name a place for the numbers of its files.
+    fn give_place(&mut self, name: &Name) -> Result<(), AllocError>
+        ensures place { OnOk result (has_place self.new name.now ≡ true) }
+        ensures same { KeepsTexts self.old self.new }
+    {
+        if self.ids.contains_key(name) {
+            return Ok(());
+        }
+        self.ids.insert(name.copy(self.alloc)?, Ids::none())?;
+        Ok(())
+    }
+
+    /// Makes a change that is ready.
     pub fn commit(&mut self, ready: Ready) -> Change
-        requires room { HasRoomFor self.old ready }
-        requires apt { IsApt self.old ready }
-        requires fits { Fits self.old ready }
+        requires { CanCommit self.old ready }
         ensures known { self.new.known ≡ known_after self.old.known ready }
         ensures max_files { self.new.max_files ≡ self.old.max_files }
         ensures max_weight { self.new.max_weight ≡ self.old.max_weight }
-        ensures change { result ≡ change_of self.old.known ready }
+        ensures change { change_of self.new.known ready ≡ Some result }
+        ensures learnt { LearnsAt self.old.known self.new.known ready result.first.0.0 }
     {
-        let id = TextId(self.known());
-        self.weight += ready.weight();
-        let Ready { file, name, text } = ready;
-        let before = self.numbers.get(&name).copied();
-        let numbers = before.unwrap_or(Numbers::none()).with(file.folder, id.0);
-        self.numbers.insert(name, numbers).unwrap();
+        match ready.prepared {
+            Prepared::File { file, text } => self.learn(file, text),
+        }
+    }
+
+    fn learn(&mut self, file: FileId, text: Option<KnownText>) -> Change
+        requires { CanCommit self.old (Learn file text) }
+        ensures known { self.new.known ≡ known_after self.old.known (Learn file text) }
+        ensures max_files { self.new.max_files ≡ self.old.max_files }
+        ensures max_weight { self.new.max_weight ≡ self.old.max_weight }
+        ensures change { change_of self.new.known (Learn file text) ≡ Some result }
+        ensures learnt { LearnsAt self.old.known self.new.known (Learn file text) result.first.0.0 }
+    {
+        file_laws();
+        let id = self.known();
+        self.weight += weigh_text(&text);
+        let ids = self.ids.get_mut(&file.name).unwrap();
+        *ids = ids.with(file.folder, id);
         self.files.push((file, text)).unwrap();
         Change {
-            first: (id, Turned::Learnt),
+            first: (TextId(id), Turned::Learnt),
             second: None,
         }
     }
 
-    fn text(&self, id: TextId) -> Option<&Text>
+    #[tactic(auto, unfolding(crate::specs::Known::lines_at))]
+    fn text(&self, id: TextId) -> Option<&KnownText>
         ensures lines { option_copied result ≡ lines_at self.now.known id.0 }
         ensures small { IfSome result (λ text. length text.now < 2 ^ 32) }
     {

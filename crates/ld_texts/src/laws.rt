@@ -1,0 +1,27 @@
+ghost use Rattle.ld_texts.specs.Laws.{LearningNumbers, LinesAgree, NumbersAgree, ReadyStays};
+
+use ld_names::file_laws;
+
+/// What is known of a file is what stands at its number.
+pub fn number_law()
+    ensures { NumbersAgree }
+{
+    file_laws();
+}
+
+/// A line's number is one more than its place in the text.
+pub fn line_law()
+    ensures { LinesAgree }
+{}
+
+/// A file that is learnt gets the next number, and all else stays.
+pub fn learning_law()
+    ensures { LearningNumbers }
+{
+    file_laws();
+}
+
+/// What is ready stays so as long as the texts stay.
+pub fn ready_law()
+    ensures { ReadyStays }
+{}
