@@ -1,11 +1,12 @@
 -- Lists of outcomes, cut.
-use Rattle.std.proofs.Common.{◌≡◌, ◌≤◌, ◌<◌, ℕ, zero, suc, Bool, true, false, cond, List, [], ◌∷◌, ◌++◌, length, map, take, Option, Some, None, Result, Ok, Err, refl, ap, sym, ◌∙◌, arith}
-use Rattle.std.proofs.lemmas.Bool.{ltb-false, ltb-true}
+use Rattle.std.proofs.Common.{◌≡◌, ◌≤◌, ◌<◌, ℕ, zero, suc, Bool, true, false, cond, List, [], ◌∷◌, ◌++◌, length, map, take, Option, Some, None, Result, Ok, Err, ⊎_elim, refl, ap, sym, ◌∙◌, arith}
+use Rattle.std.proofs.lemmas.Bool.{cases_lt, le-ltb, lt-ltb, ltb-false, ltb-true}
 use Rattle.std.proofs.lemmas.List.{map-append, take_all}
 use Rattle.std.specs.Prelude.{nat_lt, slice_get}
-use Rattle.ld_entry.specs.Answers.{answer_of, answered, cut, entries_before, first_fault, unless_too_many}
-use Rattle.ld_entry.specs.Carrying.{Above, Outcome, carried, carried_entry}
-use Rattle.ld_entry.specs.Laws.{CutLaws}
+use Rattle.ld_entry.specs.Answers.{answer_by, answer_of, cut, entries_before, first_fault, unless_too_many}
+use Rattle.ld_entry.specs.Carrying.{Above, carried_entry, carried_outcome, Outcome}
+use Rattle.ld_entry.specs.Expansion.{end_of, first_entries}
+use Rattle.ld_entry.specs.Laws.{at_end, CutLaws}
 use Rattle.ld_entry.specs.declared.entry.Entry.{Entry}
 use Rattle.ld_entry.specs.declared.entry.Fault.{Fault}
 
@@ -21,14 +22,14 @@ split [] = refl
 split (Err fault ∷ xs) = refl
 split (Ok entry ∷ xs) = ap (λ ys. Ok entry ∷ ys) (split xs)
 
-map-carried-Ok : (above : Above) (entries : List Entry) → map (carried above) (map Ok entries) ≡ map (carried_entry above) entries
-map-carried-Ok above [] = refl
-map-carried-Ok above (entry ∷ entries) = ap (λ ys. carried_entry above entry ∷ ys) (map-carried-Ok above entries)
+map-carried_outcome-Ok : (above : Above) (entries : List Entry) → map (carried_outcome above) (map Ok entries) ≡ map (carried_entry above) entries
+map-carried_outcome-Ok above [] = refl
+map-carried_outcome-Ok above (entry ∷ entries) = ap (λ ys. carried_entry above entry ∷ ys) (map-carried_outcome-Ok above entries)
 
 -- carried outcomes are the carried entries, and what is made of the rest
-pub carried-split : (above : Above) (xs : List Outcome) → map (carried above) xs ≡ map (carried_entry above) (entries_before xs) ++ map (carried above) (from_fault xs)
-carried-split above xs =
-    ap (map (carried above)) (split xs) ∙ map-append (carried above) (map Ok (entries_before xs)) (from_fault xs) ∙ ap (λ ys. ys ++ map (carried above) (from_fault xs)) (map-carried-Ok above (entries_before xs))
+pub carried_outcome-split : (above : Above) (xs : List Outcome) → map (carried_outcome above) xs ≡ map (carried_entry above) (entries_before xs) ++ map (carried_outcome above) (from_fault xs)
+carried_outcome-split above xs =
+    ap (map (carried_outcome above)) (split xs) ∙ map-append (carried_outcome above) (map Ok (entries_before xs)) (from_fault xs) ∙ ap (λ ys. ys ++ map (carried_outcome above) (from_fault xs)) (map-carried_outcome-Ok above (entries_before xs))
 
 pub first_fault-stays : (xs ys : List Outcome) (fault : Fault) → first_fault xs ≡ Some fault → first_fault (xs ++ ys) ≡ Some fault
 first_fault-stays [] ys fault is = cc
@@ -40,10 +41,10 @@ first_fault-behind [] ys none = refl
 first_fault-behind (Err e ∷ xs) ys none = cc
 first_fault-behind (Ok entry ∷ xs) ys none = first_fault-behind xs ys none
 
-pub first_fault-carried : (above : Above) (xs : List Outcome) → first_fault (map (carried above) (from_fault xs)) ≡ first_fault xs
-first_fault-carried above [] = refl
-first_fault-carried above (Err e ∷ xs) = refl
-first_fault-carried above (Ok entry ∷ xs) = first_fault-carried above xs
+pub first_fault-carried_outcome : (above : Above) (xs : List Outcome) → first_fault (map (carried_outcome above) (from_fault xs)) ≡ first_fault xs
+first_fault-carried_outcome above [] = refl
+first_fault-carried_outcome above (Err e ∷ xs) = refl
+first_fault-carried_outcome above (Ok entry ∷ xs) = first_fault-carried_outcome above xs
 
 -- without a fault each outcome is an entry
 pub length-no_fault : (xs ys : List Outcome) → first_fault xs ≡ None → length xs ≤ length (entries_before (xs ++ ys))
@@ -87,12 +88,12 @@ onto most (Err e) xs ys same = refl
 onto zero (Ok entry) xs ys same = refl
 onto (suc most) (Ok entry) xs ys same = ap (λ zs. Ok entry ∷ zs) (same most refl)
 
-cut-carried : (most more : ℕ) (above : Above) (xs : List Outcome) → most ≤ more → cut most (map (carried above) (cut more xs)) ≡ cut most (map (carried above) xs)
-cut-carried most more above [] le = refl
-cut-carried most more above (Err e ∷ xs) le = refl
-cut-carried most zero above (Ok entry ∷ xs) le = onto most (carried_entry above entry) [] (map (carried above) xs) (λ n is. absurd (omega arith))
-cut-carried most (suc more) above (Ok entry ∷ xs) le =
-    onto most (carried_entry above entry) (map (carried above) (cut more xs)) (map (carried above) xs) (λ n is. cut-carried n more above xs (omega arith))
+cut-carried_outcome : (most more : ℕ) (above : Above) (xs : List Outcome) → most ≤ more → cut most (map (carried_outcome above) (cut more xs)) ≡ cut most (map (carried_outcome above) xs)
+cut-carried_outcome most more above [] le = refl
+cut-carried_outcome most more above (Err e ∷ xs) le = refl
+cut-carried_outcome most zero above (Ok entry ∷ xs) le = onto most (carried_entry above entry) [] (map (carried_outcome above) xs) (λ n is. absurd (omega arith))
+cut-carried_outcome most (suc more) above (Ok entry ∷ xs) le =
+    onto most (carried_entry above entry) (map (carried_outcome above) (cut more xs)) (map (carried_outcome above) xs) (λ n is. cut-carried_outcome n more above xs (omega arith))
 
 -- ---- Answers of cuts.
 
@@ -107,15 +108,15 @@ unless_too_many-onto entry (Some found) entries end = refl
 unless_too_many-onto entry None entries None = refl
 unless_too_many-onto entry None entries (Some fault) = refl
 
-answered-onto : (most : ℕ) (entry : Entry) (entries : List Entry) (end : Option Fault) → answered (suc most) (entry ∷ entries) end ≡ before entry (answered most entries end)
-answered-onto most entry entries end = unless_too_many-onto entry (slice_get entries most) entries end
+answer_by-onto : (most : ℕ) (entry : Entry) (entries : List Entry) (end : Option Fault) → answer_by (suc most) (entry ∷ entries) end ≡ before entry (answer_by most entries end)
+answer_by-onto most entry entries end = unless_too_many-onto entry (slice_get entries most) entries end
 
 answer_of-cut : (most : ℕ) (xs : List Outcome) → answer_of most (cut most xs) ≡ answer_of most xs
 answer_of-cut most [] = refl
 answer_of-cut most (Err e ∷ xs) = refl
 answer_of-cut zero (Ok entry ∷ xs) = refl
 answer_of-cut (suc most) (Ok entry ∷ xs) =
-    answered-onto most entry (entries_before (cut most xs)) (first_fault (cut most xs)) ∙ ap (before entry) (answer_of-cut most xs) ∙ sym (answered-onto most entry (entries_before xs) (first_fault xs))
+    answer_by-onto most entry (entries_before (cut most xs)) (first_fault (cut most xs)) ∙ ap (before entry) (answer_of-cut most xs) ∙ sym (answer_by-onto most entry (entries_before xs) (first_fault xs))
 
 -- what stands behind an entry too many does not count
 too_many-any : (most : ℕ) (entries some more : List Entry) (end other : Option Fault) → most < length entries → unless_too_many (slice_get entries most) some end ≡ unless_too_many (slice_get entries most) more other
@@ -129,16 +130,48 @@ slice_get-take zero (entry ∷ entries) = refl
 slice_get-take (suc most) (entry ∷ entries) = slice_get-take most entries
 
 -- the first entries, and the end unless there are too many, give the answer of all
-pub answered-first : (most : ℕ) (entries : List Entry) (end : Option Fault) (count : ℕ) → length entries ≡ count → answered most (take (suc most) entries) (cond (nat_lt most count) None end) ≡ answered most entries end
-answered-first most entries end count is = by (nat_lt most count) refl
+pub answer_by-first : (most : ℕ) (entries : List Entry) (end : Option Fault) (count : ℕ) → length entries ≡ count → answer_by most (take (suc most) entries) (cond (nat_lt most count) None end) ≡ answer_by most entries end
+answer_by-first most entries end count is = by (nat_lt most count) refl
   where
-    by : (many : Bool) → nat_lt most count ≡ many → answered most (take (suc most) entries) (cond many None end) ≡ answered most entries end
+    by : (many : Bool) → nat_lt most count ≡ many → answer_by most (take (suc most) entries) (cond many None end) ≡ answer_by most entries end
     by true e =
         let many : most < length entries = omega (arith, ltb-true most count e) in
         ap (λ o. unless_too_many o (take (suc most) entries) None) (slice_get-take most entries) ∙ too_many-any most entries (take (suc most) entries) entries None end many
     by false e =
         let few : length entries ≤ suc most = omega (arith, ltb-false most count e) in
-        ap (λ es. answered most es end) (take_all (suc most) entries few)
+        ap (λ es. answer_by most es end) (take_all (suc most) entries few)
+
+-- ---- Entries and an end that are a cut.
+
+nat_lt-suc : (m n : ℕ) → nat_lt (suc m) (suc n) ≡ nat_lt m n
+nat_lt-suc m n =
+    ⊎_elim (λ (lt : m < n). lt-ltb (suc m) (suc n) (omega arith) ∙ sym (lt-ltb m n lt)) (λ (ge : n ≤ m). le-ltb (suc m) (suc n) (omega arith) ∙ sym (le-ltb m n ge)) (cases_lt m n)
+
+cut-shown : (most : ℕ) (xs : List Outcome) → map Ok (first_entries most xs) ++ at_end (end_of most xs) ≡ cut most xs
+cut-shown most [] = rw (le-ltb most 0 (omega arith)) refl
+cut-shown most (Err e ∷ xs) = rw (le-ltb most 0 (omega arith)) refl
+cut-shown zero (Ok entry ∷ xs) = rw (lt-ltb 0 (suc (length (entries_before xs))) (omega arith)) refl
+cut-shown (suc most) (Ok entry ∷ xs) =
+    ap (λ ys. Ok entry ∷ ys) (ap (λ b. map Ok (first_entries most xs) ++ at_end (cond b None (first_fault xs))) (nat_lt-suc most (length (entries_before xs))) ∙ cut-shown most xs)
+
+entries_before-shown : (entries : List Entry) (end : Option Fault) → entries_before (map Ok entries ++ at_end end) ≡ entries
+entries_before-shown [] None = refl
+entries_before-shown [] (Some e) = refl
+entries_before-shown (entry ∷ entries) end = ap (λ es. entry ∷ es) (entries_before-shown entries end)
+
+first_fault-shown : (entries : List Entry) (end : Option Fault) → first_fault (map Ok entries ++ at_end end) ≡ end
+first_fault-shown [] None = refl
+first_fault-shown [] (Some e) = refl
+first_fault-shown (entry ∷ entries) end = first_fault-shown entries end
+
+cut-only : (most : ℕ) (xs : List Outcome) (entries : List Entry) (end : Option Fault) → map Ok entries ++ at_end end ≡ cut most xs → (entries ≡ first_entries most xs) × (end ≡ end_of most xs)
+cut-only most xs entries end is =
+    let same = is ∙ sym (cut-shown most xs) in
+    (sym (entries_before-shown entries end) ∙ ap entries_before same ∙ entries_before-shown (first_entries most xs) (end_of most xs), sym (first_fault-shown entries end) ∙ ap first_fault same ∙ first_fault-shown (first_entries most xs) (end_of most xs))
+
+answer_by-shown : (most : ℕ) (xs : List Outcome) (entries : List Entry) (end : Option Fault) → map Ok entries ++ at_end end ≡ cut most xs → answer_by most entries end ≡ answer_of most xs
+answer_by-shown most xs entries end is =
+    ap (λ es. answer_by most es end) (sym (entries_before-shown entries end)) ∙ ap (answer_by most (entries_before (map Ok entries ++ at_end end))) (sym (first_fault-shown entries end)) ∙ ap (answer_of most) is ∙ answer_of-cut most xs
 
 pub cuts : CutLaws
-cuts = record { twice = cut-twice; in_front = cut-in_front; behind = λ most xs ys. cut-behind most most xs ys (omega arith); below = λ most above xs. cut-carried most most above xs (omega arith); answers = answer_of-cut }
+cuts = record { twice = cut-twice; in_front = cut-in_front; behind = λ most xs ys. cut-behind most most xs ys (omega arith); below = λ most above xs. cut-carried_outcome most most above xs (omega arith); answers = answer_of-cut; shown = cut-shown; only = cut-only; shown_answer = answer_by-shown }

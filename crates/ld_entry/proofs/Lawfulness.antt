@@ -19,11 +19,11 @@ use Rattle.ld_colour.specs.Colour.{colour_of, is_lawful, under}
 use Rattle.ld_colour.specs.Laws.{LawfulColours}
 use Rattle.ld_entry.proofs.Zeros.{HasZeros, HaveZeros, lines-zeros}
 use Rattle.ld_entry.specs.Answers.{answer, entries_before, first_fault, left_below, unless_too_many}
-use Rattle.ld_entry.specs.Carrying.{Above, Link, Outcome, at_points, carried_entry, coloured, fault_at, moved_points, onto_moved, or_source, through, through_link, wound}
+use Rattle.ld_entry.specs.Carrying.{Above, at_points, carried_entry, colour_above, fault_at, Link, moved_points, onto_moved, or_source, Outcome, through, through_link, winding_turned}
 use Rattle.ld_entry.specs.Lawful.{IsLawfulEntry, IsLawfulOutcome, zero_point}
 use Rattle.ld_entry.specs.Laws.{LawfulLaw}
 use Rattle.ld_entry.specs.NumberedTexts.{lines_in, lines_of_file, texts_over}
-use Rattle.ld_entry.specs.Outcomes.{Context, Enter, all, all_by_line, by_line, context_below, context_of, entered, from_line, is_on_way, joined, of_line, own_entry, part_outcomes, passed_down, referred}
+use Rattle.ld_entry.specs.Outcomes.{all, all_by_line, concatenation, Context, context_below, context_of, Enter, file_outcomes, found_outcomes, is_on_way, line_outcomes, outcomes_by_line, outcomes_from, outer_of, own_entry, part_outcomes}
 use Rattle.ld_entry.specs.declared.entry.Entry.{Entry}
 use Rattle.ld_entry.specs.declared.entry.Entry.TheVariants.{Drawn, Part}
 use Rattle.ld_entry.specs.declared.entry.Fault.{Fault}
@@ -74,7 +74,7 @@ module _ (laws : LawfulColours) where
   carried_entry-lawful : (above : Above) (entry : Entry) → is_lawful above.colour ≡ true → IsLawfulEntry entry → IsLawfulOutcome (carried_entry above entry)
   carried_entry-lawful above (Part file colour source) current lawful = laws.inherited colour above.colour lawful current
   carried_entry-lawful above (Drawn kind certified clip winding colour source points) current lawful =
-      at_points-lawful (Drawn kind (certified && above.below.enable) (clip && above.below.clip) (wound above.below.invert winding) (under colour above.colour) source) (through above.links (points_in kind) points) (λ there is. (laws.inherited colour above.colour lawful.0 current, drop-through above.links (points_in kind) points there is ∙ lawful.1))
+      at_points-lawful (Drawn kind (certified && above.below.enable) (clip && above.below.clip) (winding_turned above.below.invert winding) (under colour above.colour) source) (through above.links (points_in kind) points) (λ there is. (laws.inherited colour above.colour lawful.0 current, drop-through above.links (points_in kind) points there is ∙ lawful.1))
 
   -- ---- One text, whose entered texts are lawful.
 
@@ -100,24 +100,24 @@ module _ (laws : LawfulColours) where
   part-lawful context lawful source word file =
       either (not (context.texts.is_part context.text) && context.texts.is_part file) (carried_entry context.above (Part file (colour_of word) source) ∷ []) [] (one _ (carried_entry-lawful context.above (Part file (colour_of word) source) lawful.0 (laws.of_words word))) (All-nil IsLawfulOutcome)
 
-  entered-lawful : (enter : Enter) → EntersLawful enter → (context : Context) → IsLawfulContext context → (state : State) (source : Source) (word : ℕ) (placement : Placement) (file : TextId) → AreLawful (entered enter context state source word placement file)
-  entered-lawful None enters context lawful state source word placement file = one (fault_at TooDeep source) tt
-  entered-lawful (Some enter) enters context lawful state source word placement file =
-      All-append IsLawfulOutcome (part_outcomes context source word file) _ (part-lawful context lawful source word file) (enters (context_below context (passed_down state source word placement) file) (laws.inherited (colour_of word) context.above.colour (laws.of_words word) lawful.0, lawful.1))
+  file_outcomes-lawful : (enter : Enter) → EntersLawful enter → (context : Context) → IsLawfulContext context → (state : State) (source : Source) (word : ℕ) (placement : Placement) (file : TextId) → AreLawful (file_outcomes enter context state source word placement file)
+  file_outcomes-lawful None enters context lawful state source word placement file = one (fault_at TooDeep source) tt
+  file_outcomes-lawful (Some enter) enters context lawful state source word placement file =
+      All-append IsLawfulOutcome (part_outcomes context source word file) _ (part-lawful context lawful source word file) (enters (context_below context (outer_of state source word placement) file) (laws.inherited (colour_of word) context.above.colour (laws.of_words word) lawful.0, lawful.1))
 
-  referred-lawful : (enter : Enter) → EntersLawful enter → (context : Context) → IsLawfulContext context → (state : State) (source : Source) (word : ℕ) (placement : Placement) (found : Option TextId) → AreLawful (referred enter context state source word placement found)
-  referred-lawful enter enters context lawful state source word placement None = one (fault_at Missing source) tt
-  referred-lawful enter enters context lawful state source word placement (Some file) =
-      either (is_on_way context file) (fault_at Cycle source ∷ []) (entered enter context state source word placement file) (one (fault_at Cycle source) tt) (entered-lawful enter enters context lawful state source word placement file)
+  found_outcomes-lawful : (enter : Enter) → EntersLawful enter → (context : Context) → IsLawfulContext context → (state : State) (source : Source) (word : ℕ) (placement : Placement) (found : Option TextId) → AreLawful (found_outcomes enter context state source word placement found)
+  found_outcomes-lawful enter enters context lawful state source word placement None = one (fault_at Missing source) tt
+  found_outcomes-lawful enter enters context lawful state source word placement (Some file) =
+      either (is_on_way context file) (fault_at Cycle source ∷ []) (file_outcomes enter context state source word placement file) (one (fault_at Cycle source) tt) (file_outcomes-lawful enter enters context lawful state source word placement file)
 
-  line-lawful : (enter : Enter) → EntersLawful enter → (context : Context) → IsLawfulContext context → (state : State) (source : Source) (line : Line) → HasZeros line → AreLawful (of_line enter context state source line)
+  line-lawful : (enter : Enter) → EntersLawful enter → (context : Context) → IsLawfulContext context → (state : State) (source : Source) (line : Line) → HasZeros line → AreLawful (line_outcomes enter context state source line)
   line-lawful enter enters context lawful state source line.Malformed zeros = one (fault_at Malformed source) tt
   line-lawful enter enters context lawful state source line.OutOfRange zeros = one (fault_at Range source) tt
   line-lawful enter enters context lawful state source (Draw kind word points) zeros =
       one _ (carried_entry-lawful context.above (own_entry state source kind word points) lawful.0 (laws.of_words word, zeros))
   line-lawful enter enters context lawful state source (Ref word placement None) zeros = one (fault_at Unnamed source) tt
   line-lawful enter enters context lawful state source (Ref word placement (Some name)) zeros =
-      referred-lawful enter enters context lawful state source word placement (context.texts.found context.text name)
+      found_outcomes-lawful enter enters context lawful state source word placement (context.texts.found context.text name)
   line-lawful enter enters context lawful state source Blank zeros = All-nil IsLawfulOutcome
   line-lawful enter enters context lawful state source Comment zeros = All-nil IsLawfulOutcome
   line-lawful enter enters context lawful state source (Org part) zeros = All-nil IsLawfulOutcome
@@ -125,12 +125,12 @@ module _ (laws : LawfulColours) where
   line-lawful enter enters context lawful state source Step zeros = All-nil IsLawfulOutcome
   line-lawful enter enters context lawful state source (Rot word) zeros = All-nil IsLawfulOutcome
 
-  lines-lawful : (enter : Enter) → EntersLawful enter → (context : Context) → IsLawfulContext context → (state : State) (number : ℕ) (lines : List Line) → HaveZeros lines → AreLawful (joined (from_line enter context state number lines))
+  lines-lawful : (enter : Enter) → EntersLawful enter → (context : Context) → IsLawfulContext context → (state : State) (number : ℕ) (lines : List Line) → HaveZeros lines → AreLawful (concatenation (outcomes_from enter context state number lines))
   lines-lawful enter enters context lawful state number [] zeros = All-nil IsLawfulOutcome
   lines-lawful enter enters context lawful state number (line ∷ lines) zeros =
-      All-append IsLawfulOutcome (of_line enter context state (record { text = context.text; line = number }) line) _ (line-lawful enter enters context lawful state (record { text = context.text; line = number }) line zeros.0) (lines-lawful enter enters context lawful (next state line) (suc number) lines zeros.1)
+      All-append IsLawfulOutcome (line_outcomes enter context state (record { text = context.text; line = number }) line) _ (line-lawful enter enters context lawful state (record { text = context.text; line = number }) line zeros.0) (lines-lawful enter enters context lawful (next state line) (suc number) lines zeros.1)
 
-  text-lawful : (enter : Enter) → EntersLawful enter → (context : Context) → IsLawfulContext context → AreLawful (joined (by_line enter context))
+  text-lawful : (enter : Enter) → EntersLawful enter → (context : Context) → IsLawfulContext context → AreLawful (concatenation (outcomes_by_line enter context))
   text-lawful enter enters context lawful = lines-lawful enter enters context lawful (start (context.texts.is_part context.text)) 1 (context.texts.lines context.text) (lawful.1 context.text)
 
   -- ---- All texts, and their answers.
@@ -138,7 +138,7 @@ module _ (laws : LawfulColours) where
   all-lawful : (left : ℕ) (context : Context) → IsLawfulContext context → AreLawful (all left context)
   unfolding all_by_line
   all-lawful zero context lawful = text-lawful None tt context lawful
-  all-lawful (suc left) context lawful = text-lawful (Some (λ inner. joined (all_by_line left inner))) (λ inner below. all-lawful left inner below) context lawful
+  all-lawful (suc left) context lawful = text-lawful (Some (λ inner. concatenation (all_by_line left inner))) (λ inner below. all-lawful left inner below) context lawful
 
   entries-lawful : (outcomes : List Outcome) → AreLawful outcomes → All IsLawfulEntry (entries_before outcomes)
   entries-lawful [] lawful = All-nil IsLawfulEntry
@@ -146,10 +146,10 @@ module _ (laws : LawfulColours) where
   entries-lawful (Ok entry ∷ outcomes) lawful =
       All-cons IsLawfulEntry entry (entries_before outcomes) (All-head IsLawfulOutcome (Ok entry) outcomes lawful) (entries-lawful outcomes (All-tail IsLawfulOutcome (Ok entry) outcomes lawful))
 
-  answered-lawful : (found : Option Entry) (entries : List Entry) (end : Option Fault) → All IsLawfulEntry entries → IfOk (unless_too_many found entries end) (All IsLawfulEntry)
-  answered-lawful (Some entry) entries end lawful = tt
-  answered-lawful None entries None lawful = lawful
-  answered-lawful None entries (Some fault) lawful = tt
+  answer_by-lawful : (found : Option Entry) (entries : List Entry) (end : Option Fault) → All IsLawfulEntry entries → IfOk (unless_too_many found entries end) (All IsLawfulEntry)
+  answer_by-lawful (Some entry) entries end lawful = tt
+  answer_by-lawful None entries None lawful = lawful
+  answer_by-lawful None entries (Some fault) lawful = tt
 
   file-zeros : (texts : Map) (file : Option FileId) → HaveZeros (lines_of_file texts file)
   file-zeros texts None = tt
@@ -162,5 +162,5 @@ module _ (laws : LawfulColours) where
   unfolding answer
   lawful = record {
     outcomes = outcomes-lawful;
-    answers = λ texts files depth most root colour current. let xs = all (left_below depth []) (context_of (texts_over texts files) [] root (coloured colour)) in answered-lawful (slice_get (entries_before xs) most) (entries_before xs) (first_fault xs) (entries-lawful xs (outcomes-lawful texts files (left_below depth []) [] root (coloured colour) current));
+    answers = λ texts files depth most root colour current. let xs = all (left_below depth []) (context_of (texts_over texts files) [] root (colour_above colour)) in answer_by-lawful (slice_get (entries_before xs) most) (entries_before xs) (first_fault xs) (entries-lawful xs (outcomes-lawful texts files (left_below depth []) [] root (colour_above colour) current));
   }

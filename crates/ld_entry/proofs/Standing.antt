@@ -2,20 +2,20 @@
 use Rattle.std.proofs.Common.{◌≡◌, ℕ, zero, suc, Bool, true, false, cond, List, [], ◌∷◌, map, Option, Some, refl, ap, sym, ◌∙◌}
 use Rattle.std.specs.Prelude.{slice_get, unwrap_or}
 use Rattle.ld_names.specs.Finding.{FindStays, IsFileEquality}
-use Rattle.ld_names.specs.Standing.{Known, Map, Text, known_map, same_file, standing}
+use Rattle.ld_names.specs.Standing.{Known, known_map, Map, same_file, standing, Text}
 use Rattle.ld_names.specs.declared.file.FileId.{FileId}
 use Rattle.ld_names.specs.declared.file.TextId.{TextId}
 use Rattle.ld_line.specs.Reading.{line_of}
 use Rattle.ld_line.specs.declared.line.Line.{Line}
 use Rattle.ld_line.specs.declared.line.Line.TheVariants.{Ref}
-use Rattle.ld_entry.proofs.Agreement.{Agree, FindsSame, all-agree}
+use Rattle.ld_entry.proofs.Agreement.{Agree, all-agree, FindsSame}
 use Rattle.ld_entry.specs.Answers.{answer, answer_of, left_below}
-use Rattle.ld_entry.specs.Carrying.{Above, coloured, nothing_above}
+use Rattle.ld_entry.specs.Carrying.{Above, colour_above, nothing_above}
 use Rattle.ld_entry.specs.Expansion.{expansion_of, neutral_expansion}
 use Rattle.ld_entry.specs.Laws.{StandingLaw}
 use Rattle.ld_entry.specs.Learnt.{IsLearnt, WantsNothing}
-use Rattle.ld_entry.specs.NumberedTexts.{found_from, is_part_file, is_part_in, known_files, known_texts, lines_in, lines_of_file, number_of, standing_texts}
-use Rattle.ld_entry.specs.Outcomes.{all_by_line, context_of, joined}
+use Rattle.ld_entry.specs.NumberedTexts.{file_is_part, found_from, is_part_in, known_files, known_texts, lines_in, lines_of_file, number_of, standing_texts}
+use Rattle.ld_entry.specs.Outcomes.{all_by_line, concatenation, context_of}
 
 -- a known file stands as it is known
 standing-known : (known : Map) (shelf : FileId → Text) (file : FileId) (text : Text) → known file ≡ Some text → standing known shelf file ≡ Some text
@@ -47,7 +47,7 @@ module _ (stays : FindStays) (equality : IsFileEquality) where
   finds-same inside known shelf text file at (line ∷ lines) nothing = finds-same inside known shelf text file at lines nothing
 
   agree : (inside : TextId → Bool) (known : Known) (shelf : FileId → Text) → IsLearnt inside known → Agree inside (known_texts known) (standing_texts known shelf)
-  agree inside known shelf learnt = record { lines = λ text within. by_map (λ m. lines_of_file m) (λ m. λ m'. λ file same. ap (λ t. map line_of (lines_in t)) same) text within; is_part = λ text within. by_map (λ m. is_part_file m) (λ m. λ m'. λ file same. ap (λ t. is_part_in file.folder t) same) text within; finds = λ text within. let at = learnt text within in finds-same inside known shelf text at.0 at.1 ((known_texts known).lines text) at.2 }
+  agree inside known shelf learnt = record { lines = λ text within. by_map (λ m. lines_of_file m) (λ m. λ m'. λ file same. ap (λ t. map line_of (lines_in t)) same) text within; is_part = λ text within. by_map (λ m. file_is_part m) (λ m. λ m'. λ file same. ap (λ t. is_part_in file.folder t) same) text within; finds = λ text within. let at = learnt text within in finds-same inside known shelf text at.0 at.1 ((known_texts known).lines text) at.2 }
     where
       by_map : {A : Type 0} (of : Map → Option FileId → A) → ((m m' : Map) (file : FileId) → m file ≡ m' file → of m (Some file) ≡ of m' (Some file)) → (text : TextId) → inside text ≡ true → of (standing (known_map known) shelf) (slice_get (known_files known) text.0) ≡ of (known_map known) (slice_get (known_files known) text.0)
       by_map of alike text within =
@@ -62,6 +62,6 @@ module _ (stays : FindStays) (equality : IsFileEquality) where
   unfolding answer neutral_expansion
   stands = record {
     outcomes = lines-same;
-    answers = λ inside known shelf learnt depth most root colour within. ap (λ lines. answer_of most (joined lines)) (lines-same inside known shelf learnt (left_below depth []) [] root (coloured colour) within);
+    answers = λ inside known shelf learnt depth most root colour within. ap (λ lines. answer_of most (concatenation lines)) (lines-same inside known shelf learnt (left_below depth []) [] root (colour_above colour) within);
     expansions = λ inside known shelf learnt depth most way text within. ap (expansion_of most) (lines-same inside known shelf learnt (left_below depth way) way text nothing_above within);
   }

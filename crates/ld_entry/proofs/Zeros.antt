@@ -10,7 +10,7 @@ use Rattle.ld_line.specs.Colour.{colour_word}
 use Rattle.ld_line.specs.Field.{after_fields, fields}
 use Rattle.ld_line.specs.Kind.{points_in}
 use Rattle.ld_line.specs.Meta.{meta_of, rotated, stated, turned}
-use Rattle.ld_line.specs.Numbers.{angles_of, numbers_of, onto_numbers, number_at, points_of}
+use Rattle.ld_line.specs.Numbers.{angles_of, number_at, numbers_of, onto_numbers, points_of}
 use Rattle.ld_line.specs.Reading.{draw_of, drawn, file_named, line_in, line_of, reference_of, referred}
 use Rattle.ld_line.specs.declared.line.Angles.{Angles}
 use Rattle.ld_line.specs.declared.line.BfcWord.{BfcWord}

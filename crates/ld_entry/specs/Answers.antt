@@ -2,7 +2,7 @@
 use Rattle.std.specs.Prelude.{ℕ, zero, suc, ◌-◌, List, [], ◌∷◌, length, slice_get, Option, Some, None, Result, Ok, Err}
 use Rattle.ld_names.specs.declared.file.TextId.{TextId}
 use Rattle.ld_colour.specs.declared.colour.Colour.{Colour}
-use Rattle.ld_entry.specs.Carrying.{Outcome, coloured}
+use Rattle.ld_entry.specs.Carrying.{colour_above, Outcome}
 use Rattle.ld_entry.specs.NumberedTexts.{NumberedTexts}
 use Rattle.ld_entry.specs.Outcomes.{all, context_of}
 use Rattle.ld_entry.specs.declared.entry.Entry.{Entry}
@@ -37,11 +37,11 @@ unless_too_many (Some entry) entries end = Err (record { what = TooMany; source 
 unless_too_many None entries end = unless_ended end entries
 
 -- the answer of entries and the fault behind them, with so many entries at most
-abbrev pub answered : ℕ → List Entry → Option Fault → Result (List Entry) Fault
-answered most entries end = unless_too_many (slice_get entries most) entries end
+abbrev pub answer_by : ℕ → List Entry → Option Fault → Result (List Entry) Fault
+answer_by most entries end = unless_too_many (slice_get entries most) entries end
 
 abbrev pub answer_of : ℕ → List Outcome → Result (List Entry) Fault
-answer_of most outcomes = answered most (entries_before outcomes) (first_fault outcomes)
+answer_of most outcomes = answer_by most (entries_before outcomes) (first_fault outcomes)
 
 -- how many files more a way may have behind a text
 abbrev pub left_below : ℕ → List TextId → ℕ
@@ -49,7 +49,7 @@ left_below depth way = depth - suc (length way)
 
 -- the answer to a query of a root in a colour
 unfoldable pub answer : NumberedTexts → ℕ → ℕ → TextId → Colour → Result (List Entry) Fault
-answer texts depth most root colour = answer_of most (all (left_below depth []) (context_of texts [] root (coloured colour)))
+answer texts depth most root colour = answer_of most (all (left_below depth []) (context_of texts [] root (colour_above colour)))
 
 -- the outcomes up to and with the first fault, or the first entry too many
 abbrev pub cut : ℕ → List Outcome → List Outcome

@@ -43,8 +43,8 @@ abbrev pub nothing_above : Above
 nothing_above = record { links = []; colour = Main; below = neutral }
 
 -- a colour and no reference
-abbrev pub coloured : Colour → Above
-coloured colour = record { links = []; colour = colour; below = neutral }
+abbrev pub colour_above : Colour → Above
+colour_above colour = record { links = []; colour = colour; below = neutral }
 
 -- one reference
 abbrev pub above_of : Outer → Above
@@ -80,10 +80,10 @@ through [] used points = Ok points
 through (link ∷ links) used points = through_link link used (through links used points)
 
 -- the other winding where a face is turned
-abbrev pub wound : Bool → Winding → Winding
-wound false winding = winding
-wound true Ccw = Cw
-wound true Cw = Ccw
+abbrev pub winding_turned : Bool → Winding → Winding
+winding_turned false winding = winding
+winding_turned true Ccw = Cw
+winding_turned true Cw = Ccw
 
 -- an entry by its moved points, or the fault of a link through which they do not go
 abbrev pub at_points : (List Point → Entry) → Result (List Point) Source → Outcome
@@ -93,10 +93,10 @@ at_points entry (Err source) = fault_at Range source
 -- what becomes of an entry of a text below what stands above it
 abbrev pub carried_entry : Above → Entry → Outcome
 carried_entry above (Drawn kind certified clip winding colour source points) =
-    at_points (Drawn kind (certified && above.below.enable) (clip && above.below.clip) (wound above.below.invert winding) (under colour above.colour) source) (through above.links (points_in kind) points)
+    at_points (Drawn kind (certified && above.below.enable) (clip && above.below.clip) (winding_turned above.below.invert winding) (under colour above.colour) source) (through above.links (points_in kind) points)
 carried_entry above (Part file colour source) = Ok (Part file (under colour above.colour) source)
 
 -- a fault stays
-abbrev pub carried : Above → Outcome → Outcome
-carried above (Ok entry) = carried_entry above entry
-carried above (Err fault) = Err fault
+abbrev pub carried_outcome : Above → Outcome → Outcome
+carried_outcome above (Ok entry) = carried_entry above entry
+carried_outcome above (Err fault) = Err fault

@@ -3,9 +3,9 @@
 use Rattle.std.specs.Prelude.{ℕ, suc, List, [], ◌∷◌, ◌++◌, length, take, nat_lt, Option, None, if◌then◌else◌}
 use Rattle.ld_names.specs.declared.file.TextId.{TextId}
 use Rattle.ld_entry.specs.Answers.{entries_before, first_fault, left_below}
-use Rattle.ld_entry.specs.Carrying.{Outcome, nothing_above}
+use Rattle.ld_entry.specs.Carrying.{nothing_above, Outcome}
 use Rattle.ld_entry.specs.NumberedTexts.{NumberedTexts}
-use Rattle.ld_entry.specs.Outcomes.{all_by_line, context_of, joined}
+use Rattle.ld_entry.specs.Outcomes.{all_by_line, concatenation, context_of}
 use Rattle.ld_entry.specs.declared.entry.Entry.{Entry}
 use Rattle.ld_entry.specs.declared.entry.Fault.{Fault}
 
@@ -29,7 +29,7 @@ ends_behind most before (line ∷ lines) =
     length (first_entries most (before ++ line)) ∷ ends_behind most (before ++ line) lines
 
 abbrev pub expansion_of : ℕ → List (List Outcome) → Expansion
-expansion_of most lines = record { entries = first_entries most (joined lines); line_ends = ends_behind most [] lines; end = end_of most (joined lines) }
+expansion_of most lines = record { entries = first_entries most (concatenation lines); line_ends = ends_behind most [] lines; end = end_of most (concatenation lines) }
 
 -- the expansion of a text at the end of a way
 unfoldable pub neutral_expansion : NumberedTexts → ℕ → ℕ → List TextId → TextId → Expansion

@@ -1,21 +1,36 @@
 -- Laws of recursive expansion.
-use Rattle.std.specs.Prelude.{◌≡◌, ◌≤◌, ◌<◌, ◌+◌, ◌++◌, ◌⊎◌, ℕ, suc, Bool, true, All, List, [], map, length, take, slice_get, Some, None, Ok, IfOk}
+use Rattle.std.specs.Prelude.{◌≡◌, ◌≤◌, ◌<◌, ◌+◌, ◌++◌, ◌⊎◌, ℕ, suc, Bool, true, All, List, [], ◌∷◌, map, length, take, slice_get, Option, Some, None, Ok, Err, IfOk}
 use Rattle.ld_names.specs.Standing.{Known, Map, Text}
 use Rattle.ld_names.specs.declared.file.FileId.{FileId}
 use Rattle.ld_names.specs.declared.file.TextId.{TextId}
 use Rattle.ld_colour.specs.Colour.{is_lawful, under}
 use Rattle.ld_colour.specs.declared.colour.Colour.{Colour}
-use Rattle.ld_entry.specs.Answers.{answer, answer_of, answered, cut, entries_before, first_fault, left_below}
-use Rattle.ld_entry.specs.Carrying.{Above, Outcome, above_of, beneath, carried, carried_entry, nothing_above}
-use Rattle.ld_entry.specs.Expansion.{Expansion, expansion_of, first_entries, neutral_expansion}
+use Rattle.ld_colour.specs.declared.colour.Colour.TheVariants.{Code}
+use Rattle.ld_entry.specs.Answers.{answer, answer_by, answer_of, cut, entries_before, first_fault, left_below}
+use Rattle.ld_entry.specs.Carrying.{Above, above_of, beneath, carried_entry, carried_outcome, nothing_above, Outcome}
+use Rattle.ld_entry.specs.Expansion.{end_of, Expansion, expansion_of, first_entries, neutral_expansion}
 use Rattle.ld_entry.specs.Lawful.{IsLawfulEntry, IsLawfulOutcome}
 use Rattle.ld_entry.specs.Learnt.{IsLearnt}
-use Rattle.ld_entry.specs.NumberedTexts.{NumberedTexts, known_texts, standing_texts, texts_over}
-use Rattle.ld_entry.specs.Outcomes.{Context, all, all_by_line, context_of, joined}
+use Rattle.ld_entry.specs.NumberedTexts.{known_texts, NumberedTexts, standing_texts, texts_over}
+use Rattle.ld_entry.specs.Outcomes.{all, all_by_line, concatenation, Context, context_of}
 use Rattle.ld_entry.specs.declared.entry.Entry.{Entry}
 use Rattle.ld_entry.specs.declared.entry.Entry.TheVariants.{Drawn, Part}
 use Rattle.ld_entry.specs.declared.entry.Fault.{Fault}
 use Rattle.ld_entry.specs.declared.entry.Outer.{Outer}
+use Rattle.ld_entry.specs.declared.entry.Source.{Source}
+
+-- ---- What stands above composes, and so does what becomes of entries below it.
+
+pub record CarryLaws : Type 0 where
+  pub associative : (a b c : Above) → beneath a (beneath b c) ≡ beneath (beneath a b) c
+  pub left_unit : (above : Above) → beneath nothing_above above ≡ above
+  pub right_unit : (above : Above) → beneath above nothing_above ≡ above
+  -- below nothing an outcome stays
+  pub nothing : (outcome : Outcome) → carried_outcome nothing_above outcome ≡ outcome
+  -- references act one after another, the inner first
+  pub composed : (outer inner : Above) (outcome : Outcome) → carried_outcome (beneath outer inner) outcome ≡ carried_outcome outer (carried_outcome inner outcome)
+  -- a colour of its own stays
+  pub own_colour : (above : Above) (file : TextId) (code : ℕ) (source : Source) → carried_outcome above (Ok (Part file (Code code) source)) ≡ Ok (Part file (Code code) source)
 
 -- ---- What stands further out acts on each outcome alone.
 
@@ -25,9 +40,9 @@ further_below outer context = record context { above = beneath outer context.abo
 
 pub record ActionLaw : Type 0 where
   -- any references above those that stand above a text carry what each of its lines gives
-  pub further : (outer : Above) (left : ℕ) (context : Context) → all_by_line left (further_below outer context) ≡ map (map (carried outer)) (all_by_line left context)
+  pub further : (outer : Above) (left : ℕ) (context : Context) → all_by_line left (further_below outer context) ≡ map (map (carried_outcome outer)) (all_by_line left context)
   -- below any references a text gives what it gives below nothing, carried through them
-  pub from_nothing : (above : Above) (left : ℕ) (texts : NumberedTexts) (way : List TextId) (text : TextId) → all left (context_of texts way text above) ≡ map (carried above) (all left (context_of texts way text nothing_above))
+  pub from_nothing : (above : Above) (left : ℕ) (texts : NumberedTexts) (way : List TextId) (text : TextId) → all left (context_of texts way text above) ≡ map (carried_outcome above) (all left (context_of texts way text nothing_above))
 
 -- ---- One link.
 
@@ -48,23 +63,33 @@ LinkLaw = (outer : Outer) (texts : NumberedTexts) (depth most : ℕ) (way : List
 -- ---- A colour.
 
 -- an entry where a colour is current
-abbrev pub tinted : Colour → Entry → Entry
-tinted current (Drawn kind certified clip winding colour source points) = Drawn kind certified clip winding (under colour current) source points
-tinted current (Part file colour source) = Part file (under colour current) source
+abbrev pub tinted_entry : Colour → Entry → Entry
+tinted_entry current (Drawn kind certified clip winding colour source points) = Drawn kind certified clip winding (under colour current) source points
+tinted_entry current (Part file colour source) = Part file (under colour current) source
 
 -- the answer in a colour, by the expansion of the root
 abbrev pub TintLaw : Type 0
-TintLaw = (texts : NumberedTexts) (depth most : ℕ) (root : TextId) (colour : Colour) → answer texts depth most root colour ≡ answered most (map (tinted colour) (neutral_expansion texts depth most [] root).entries) (neutral_expansion texts depth most [] root).end
+TintLaw = (texts : NumberedTexts) (depth most : ℕ) (root : TextId) (colour : Colour) → answer texts depth most root colour ≡ answer_by most (map (tinted_entry colour) (neutral_expansion texts depth most [] root).entries) (neutral_expansion texts depth most [] root).end
 
 -- ---- Cuts.
+
+-- the fault that ends entries, where there is one
+abbrev pub at_end : Option Fault → List Outcome
+at_end None = []
+at_end (Some fault) = Err fault ∷ []
 
 -- What a cut leaves out does not count.
 pub record CutLaws : Type 0 where
   pub twice : (most : ℕ) (outcomes : List Outcome) → cut most (cut most outcomes) ≡ cut most outcomes
   pub in_front : (most : ℕ) (outcomes behind : List Outcome) → cut most (cut most outcomes ++ behind) ≡ cut most (outcomes ++ behind)
   pub behind : (most : ℕ) (before outcomes : List Outcome) → cut most (before ++ cut most outcomes) ≡ cut most (before ++ outcomes)
-  pub below : (most : ℕ) (above : Above) (outcomes : List Outcome) → cut most (map (carried above) (cut most outcomes)) ≡ cut most (map (carried above) outcomes)
+  pub below : (most : ℕ) (above : Above) (outcomes : List Outcome) → cut most (map (carried_outcome above) (cut most outcomes)) ≡ cut most (map (carried_outcome above) outcomes)
   pub answers : (most : ℕ) (outcomes : List Outcome) → answer_of most (cut most outcomes) ≡ answer_of most outcomes
+  -- a cut is the first entries and their end, and nothing else is that cut
+  pub shown : (most : ℕ) (outcomes : List Outcome) → map Ok (first_entries most outcomes) ++ at_end (end_of most outcomes) ≡ cut most outcomes
+  pub only : (most : ℕ) (outcomes : List Outcome) (entries : List Entry) (end : Option Fault) → map Ok entries ++ at_end end ≡ cut most outcomes → (entries ≡ first_entries most outcomes) × (end ≡ end_of most outcomes)
+  -- so entries and an end that are a cut give the answer
+  pub shown_answer : (most : ℕ) (outcomes : List Outcome) (entries : List Entry) (end : Option Fault) → map Ok entries ++ at_end end ≡ cut most outcomes → answer_by most entries end ≡ answer_of most outcomes
 
 -- ---- The ends of lines.
 
@@ -73,9 +98,9 @@ pub record EndsLaws : Type 0 where
   -- there is one end for each line
   pub count : (most : ℕ) (lines : List (List Outcome)) → length (expansion_of most lines).line_ends ≡ length lines
   -- it counts the first entries of the lines up to and with its own
-  pub counts : (most : ℕ) (lines : List (List Outcome)) (line : ℕ) → line < length lines → slice_get (expansion_of most lines).line_ends line ≡ Some (length (first_entries most (joined (take (suc line) lines))))
+  pub counts : (most : ℕ) (lines : List (List Outcome)) (line : ℕ) → line < length lines → slice_get (expansion_of most lines).line_ends line ≡ Some (length (first_entries most (concatenation (take (suc line) lines))))
   -- and these are the first ones of all
-  pub first : (most : ℕ) (lines : List (List Outcome)) (line : ℕ) → take (length (first_entries most (joined (take line lines)))) (expansion_of most lines).entries ≡ first_entries most (joined (take line lines))
+  pub first : (most : ℕ) (lines : List (List Outcome)) (line : ℕ) → take (length (first_entries most (concatenation (take line lines)))) (expansion_of most lines).entries ≡ first_entries most (concatenation (take line lines))
 
 -- ---- Known and standing texts.
 

@@ -1,6 +1,6 @@
 -- Sets of known texts in which no file is wanted.
 use Rattle.std.specs.Prelude.{◌≡◌, ◌≢◌, Bool, true, List, [], ◌∷◌, Option, Some, None, slice_get, ⊤}
-use Rattle.ld_names.specs.Standing.{Known, Unknown, find, known_map}
+use Rattle.ld_names.specs.Standing.{find, Known, known_map, Unknown}
 use Rattle.ld_names.specs.declared.file.FileId.{FileId}
 use Rattle.ld_names.specs.declared.file.Folder.{Folder}
 use Rattle.ld_names.specs.declared.file.TextId.{TextId}

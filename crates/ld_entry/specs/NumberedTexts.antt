@@ -1,6 +1,6 @@
 -- Texts as an expansion sees them: by the numbers of their files.
 use Rattle.std.specs.Prelude.{ℕ, Bool, false, List, [], map, Option, Some, None, option_map, position, slice_get}
-use Rattle.ld_names.specs.Standing.{Found, Present, Absent, Unknown, Known, Map, Text, find, known_map, same_file, standing}
+use Rattle.ld_names.specs.Standing.{Absent, find, Found, Known, known_map, Map, Present, same_file, standing, Text, Unknown}
 use Rattle.ld_names.specs.declared.file.FileId.{FileId}
 use Rattle.ld_names.specs.declared.file.Folder.{Folder}
 use Rattle.ld_names.specs.declared.file.TextId.{TextId}
@@ -27,11 +27,12 @@ abbrev pub lines_of_file : Map → Option FileId → List Line
 lines_of_file texts (Some file) = map line_of (lines_in (texts file))
 lines_of_file texts None = []
 
-abbrev pub is_part_file : Map → Option FileId → Bool
-is_part_file texts (Some file) = is_part_in file.folder (texts file)
-is_part_file texts None = false
+abbrev pub file_is_part : Map → Option FileId → Bool
+file_is_part texts (Some file) = is_part_in file.folder (texts file)
+file_is_part texts None = false
 
--- the number of a file that was found, which is its place among the files
+-- The number of a file that was found, which is its place among the files. A file that has none is not found: where
+-- nothing is wanted there is no such file, and nothing is unknown.
 abbrev pub number_of : List FileId → Found → Option TextId
 number_of files (Present file) = option_map (λ place. record { 0 = place }) (position (same_file file) files)
 number_of files Absent = None
@@ -44,7 +45,7 @@ found_from texts files name None = None
 -- the texts of a map, numbered by a list of files
 abbrev pub texts_over : Map → List FileId → NumberedTexts
 texts_over texts files =
-    record { lines = λ text. lines_of_file texts (slice_get files text.0); is_part = λ text. is_part_file texts (slice_get files text.0); found = λ text name. found_from texts files name (slice_get files text.0) }
+    record { lines = λ text. lines_of_file texts (slice_get files text.0); is_part = λ text. file_is_part texts (slice_get files text.0); found = λ text name. found_from texts files name (slice_get files text.0) }
 
 -- the known files by their numbers
 abbrev pub known_files : Known → List FileId

@@ -3,14 +3,14 @@ use Rattle.std.specs.Prelude.{◌≡◌, ℕ, zero, suc, ◌*◌, ◌^◌, Bool,
 use Rattle.ld_names.specs.Standing.{Known, Text}
 use Rattle.ld_names.specs.declared.file.FileId.{FileId}
 use Rattle.ld_names.specs.declared.file.Folder.{Folder}
-use Rattle.ld_names.specs.declared.file.Folder.TheVariants.{Model, Parts, P}
+use Rattle.ld_names.specs.declared.file.Folder.TheVariants.{Model, P, Parts}
 use Rattle.ld_num.specs.declared.point.Point.{Point}
-use Rattle.ld_line.specs.declared.line.Kind.TheVariants.{Line2, Tri, Quad}
+use Rattle.ld_line.specs.declared.line.Kind.TheVariants.{Line2, Quad, Tri}
 use Rattle.ld_line.specs.declared.line.Winding.{Winding}
 use Rattle.ld_line.specs.declared.line.Winding.TheVariants.{Ccw, Cw}
 use Rattle.ld_colour.specs.Colour.{colour_of}
 use Rattle.ld_colour.specs.declared.colour.Colour.{Colour}
-use Rattle.ld_colour.specs.declared.colour.Colour.TheVariants.{Main, Edge, Code, EdgeOf, Direct}
+use Rattle.ld_colour.specs.declared.colour.Colour.TheVariants.{Code, Direct, Edge, EdgeOf, Main}
 use Rattle.ld_entry.specs.Answers.{answer}
 use Rattle.ld_entry.specs.Expansion.{neutral_expansion}
 use Rattle.ld_entry.specs.NumberedTexts.{NumberedTexts, standing_texts}

@@ -1,6 +1,6 @@
 ghost use Rattle.std.specs.Prelude.{◌≡◌};
 ghost use Rattle.ld_line.specs.Kind.{points_in};
-ghost use Rattle.ld_entry.specs.Carrying.{above_of, carried_entry, moved_points, wound};
+ghost use Rattle.ld_entry.specs.Carrying.{above_of, carried_entry, moved_points, winding_turned};
 
 use crate::entry::{Entry, Fault, Outer, What};
 use ld_colour::under;
@@ -81,7 +81,7 @@ fn move_points(by: &Placement, kind: Kind, points: [Point; 4]) -> Option<[Point;
 
 #[inline]
 fn wind(invert: bool, winding: Winding) -> Winding
-    ensures { result ≡ wound invert winding }
+    ensures { result ≡ winding_turned invert winding }
 {
     match (invert, winding) {
         (false, winding) => winding,

@@ -1,8 +1,16 @@
-ghost use Rattle.ld_entry.specs.Laws.{ActionLaw, CutLaws, EndsLaws, LawfulLaw, LinkLaw, StandingLaw, TintLaw};
+ghost use Rattle.ld_entry.specs.Laws.{ActionLaw, CarryLaws, CutLaws, EndsLaws, LawfulLaw, LinkLaw, StandingLaw, TintLaw};
 
 use ld_bfc::with_laws;
 use ld_colour::{lawful_colours, under_laws};
 use ld_names::{file_laws, lookup_law};
+
+/// References act one after another, and nothing above a text changes nothing.
+pub fn carry_laws()
+    ensures { CarryLaws }
+{
+    under_laws();
+    with_laws();
+}
 
 /// What stands further out acts on each outcome alone: below any references a text gives what it
 /// gives below nothing, carried through them.
