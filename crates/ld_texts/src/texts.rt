@@ -1,6 +1,5 @@
 ghost use Rattle.std.specs.Prelude.{◌≡◌, ◌<◌, ◌≤◌, ◌^◌, [], IfOk, IfSome, OnOk, Some, None, length, option_map, true};
-ghost use Rattle.std.specs.BTreeMap.{get, is_at};
-ghost use Rattle.std.specs.Option.{is_some, option_copied, unwrap_or};
+ghost use Rattle.std.specs.Option.{is_some, option_copied};
 ghost use Rattle.ld_texts.specs.Known.{AreDistinct, file_at, id_of, is_part_at, line_at, lines_at, weight_of};
 ghost use Rattle.ld_texts.specs.Learning.{CanCommit, KeepsTexts, Learn, LearnsAt, GivesUnless, change_of, has_place, known_after, limit_passed, weight_passed};
 ghost use Rattle.ld_names.specs.declared.file.FileId.{FileId};
