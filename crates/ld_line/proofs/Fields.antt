@@ -67,3 +67,19 @@ begins (x ∷ xs) some =
 pub fields-first : (line : List ℕ) → 0 < length (trim_start line) → fields line ≡ take (position_or_len is_blank (trim_start line)) (trim_start line) ∷ fields (after_field line)
 unfolding after_field
 fields-first line some = sym (fields-trim_start line) ∙ first-field (trim_start line) (begins line some)
+
+-- nothing stands behind where no field is
+pub fields-end : (line : List ℕ) → fields line ≡ [] → after_field line ≡ []
+unfolding after_field
+fields-end line none =
+    ⊎_elim
+    (λ some. absurd (no_cons _ _ (sym none ∙ fields-first line some)))
+    (λ ends. ap (λ text. drop (position_or_len is_blank text) text) (empty (trim_start line) ends))
+    (cases_lt 0 (length (trim_start line)))
+  where
+    no_cons : (x : List ℕ) (xs : List (List ℕ)) → [] ≡ x ∷ xs → ⊥
+    no_cons x xs e = cc
+
+    empty : (xs : List ℕ) → length xs ≤ 0 → xs ≡ []
+    empty [] ends = refl
+    empty (x ∷ xs) ends = absurd (omega arith)

@@ -1,9 +1,11 @@
 pub mod Colours
 pub mod Cuts
+pub mod Drawn
 pub mod Ends
 pub mod Fields
 pub mod Files
 pub mod OtherLines
+pub mod Rotations
 pub mod Steps
 pub mod Values
 pub mod Words

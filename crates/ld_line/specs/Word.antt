@@ -32,6 +32,7 @@ pub record FieldsOfWords : Type 0 where
   pub more : (word : List ℕ) (byte : ℕ) (rest : List ℕ) → is_word word ≡ true → is_blank byte ≡ true → fields (word ++ byte ∷ rest) ≡ word ∷ fields rest
   pub behind : (word : List ℕ) (byte : ℕ) (rest : List ℕ) → is_word word ≡ true → is_blank byte ≡ true → after_field (word ++ byte ∷ rest) ≡ byte ∷ rest
   pub spaced : (words : List (List ℕ)) → list_all is_word words ≡ true → fields (spaced words) ≡ words
+  pub end : (line : List ℕ) → fields line ≡ [] → after_field line ≡ []
 
 -- lines that are ended by CR LF are the lines of their text, and no line holds a line feed
 pub record LinesOfTexts : Type 0 where

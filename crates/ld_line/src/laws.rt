@@ -1,5 +1,7 @@
 ghost use Rattle.ld_line.specs.Word.{FieldsOfWords, LinesOfTexts};
-ghost use Rattle.ld_line.specs.Printing.{ColoursAgain};
+ghost use Rattle.ld_line.specs.Printing.{ColoursAgain, DrawnAgain, StepsAgain};
+
+use ld_num::print_law;
 
 /// Words with blanks between them are the fields of their line.
 pub fn fields_law()
@@ -15,3 +17,17 @@ pub fn lines_law()
 pub fn colour_law()
     ensures { ColoursAgain }
 {}
+
+/// A printed line of type 2 to 5 is read as what it draws.
+pub fn draw_law()
+    ensures { DrawnAgain }
+{
+    print_law();
+}
+
+/// Printed steps and statements of back face culling are read as those.
+pub fn step_law()
+    ensures { StepsAgain }
+{
+    print_law();
+}

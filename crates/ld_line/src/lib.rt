@@ -21,6 +21,6 @@ pub use cut::{lines_of, split_line, unmarked};
 pub use digits::{read_digits, read_number};
 pub use field::split_field;
 pub use header::header_line;
-pub use laws::{colour_law, fields_law, lines_law};
+pub use laws::{colour_law, draw_law, fields_law, lines_law, step_law};
 pub use line::{Angles, BfcWord, BlockLine, Kind, Line, RotWord, Winding};
 pub use read::read_line;
