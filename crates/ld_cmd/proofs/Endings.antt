@@ -1,42 +1,45 @@
--- What a run writes, and what is taken where all was written.
-use Rattle.std.proofs.Common.{◌≡◌, ℕ, List, [], ◌++◌, length, Option, Some, Bool, true, IsTrue, refl, ap, ◌∙◌, sym, arith, append-nil, tests}
+-- Complete runs, and runs of words that are no command.
+use Rattle.std.proofs.Common.{◌≡◌, ℕ, List, [], ◌∷◌, Option, Some, None, IfSome, refl, ap, sym, subst, inl, inr}
+use Rattle.ld_io.specs.Shelf.{Files}
 use Rattle.ld_cmd.specs.declared.status.Status.{Status}
 use Rattle.ld_cmd.specs.declared.status.Status.TheVariants.{Done, Faulted, Usage, Input, ReadFault, WriteFault, Memory, Limit}
-use Rattle.ld_io.specs.Shelf.{Files}
-use Rattle.ld_io.specs.declared.shelf.Place.TheVariants.{Work}
-use Rattle.ld_io.specs.Faults.{HasRisen}
-use Rattle.ld_cmd.specs.Ending.{EndsAs, IsComplete, Takes, is_whole}
-use Rattle.ld_cmd.specs.Output.{commanded, faces_output, output}
-use Rattle.ld_cmd.specs.Words.{command_of}
+use Rattle.ld_cmd.specs.Ending.{EndsAs, IsComplete, Takes}
+use Rattle.ld_cmd.specs.Output.{Output, commanded, output, usage}
+use Rattle.ld_cmd.specs.Words.{command_of, usage_line}
 
-pub takes_whole : (status : Status) (bytes before : List ℕ) (after : Option (List ℕ)) → IsTrue (is_whole status) → after ≡ Some (before ++ bytes) → Takes status bytes before after
-takes_whole Done bytes before after whole is = is
-takes_whole Faulted bytes before after whole is = is
-takes_whole Usage bytes before after whole is = is
-takes_whole Input bytes before after whole is = is
-takes_whole Limit bytes before after whole is = is
-takes_whole ReadFault bytes before after whole is = cc
-takes_whole WriteFault bytes before after whole is = absurd (cc)
-takes_whole Memory bytes before after whole is = cc
+-- the status of a run over files that are told
+abbrev pub EndsTold : Status → (Files → Output) → Option Files → Type 0
+EndsTold status wanted files = IfSome files (λ f. EndsAs status (wanted f).status)
 
--- the output for a command
-pub output-command : (words : List (List ℕ)) (word : List ℕ) (files : Files) → Some word ≡ command_of words → faces_output word (files Work word) ≡ output words files
+-- what it takes, where that is told too
+abbrev pub TakesTold : Status → (Files → Output) → Option Files → Option (List ℕ) → Option (List ℕ) → Type 0
+TakesTold status wanted files before after = IfSome files (λ f. IfSome before (λ b. Takes status (wanted f).pieces b after))
+
+-- a run that neither reading nor writing stopped is complete
+is_complete : (status : Status) (wanted : Output) (before : List ℕ) (after : Option (List ℕ)) → EndsAs status wanted.status → Takes status wanted.pieces before after → ¬ (status ≡ ReadFault) → ¬ (status ≡ WriteFault) → IsComplete status wanted before after
+is_complete Done wanted before after ends takes read written = inl (ends refl, takes)
+is_complete Faulted wanted before after ends takes read written = inl (ends refl, takes)
+is_complete Usage wanted before after ends takes read written = inl (ends refl, takes)
+is_complete Input wanted before after ends takes read written = inl (ends refl, takes)
+is_complete Limit wanted before after ends takes read written = inl (ends refl, takes)
+is_complete Memory wanted before after ends takes read written = inr (refl, takes)
+is_complete ReadFault wanted before after ends takes read written = absurd (read refl)
+is_complete WriteFault wanted before after ends takes read written = absurd (written refl)
+
+pub complete_where_told : (status : Status) (wanted : Files → Output) (files : Option Files) (before after : Option (List ℕ)) → EndsTold status wanted files → TakesTold status wanted files before after → ¬ (status ≡ ReadFault) → ¬ (status ≡ WriteFault) → IfSome files (λ f. IfSome before (λ b. IsComplete status (wanted f) b after))
+complete_where_told status wanted None before after ends takes read written = tt
+complete_where_told status wanted (Some files) None after ends takes read written = tt
+complete_where_told status wanted (Some files) (Some before) after ends takes read written = is_complete status (wanted files) before after ends takes read written
+
+-- the output of words that are no command
+usage_output : (words : List (List ℕ)) → None ≡ command_of words → (files : Files) → output words files ≡ usage
 unfolding output
-output-command words word files is = ap (λ command. commanded command files) is
+usage_output words is files = ap (λ command. commanded command files) (sym is)
 
-just : {A : Type 0} (a b : A) → Some a ≡ Some b → a ≡ b
-just a b is = cc
+pub usage_ends : (status : Status) (words : List (List ℕ)) (files : Option Files) → None ≡ command_of words → EndsAs status Usage → EndsTold status (output words) files
+usage_ends status words None is ends = tt
+usage_ends status words (Some files) is ends = subst (λ out. EndsAs status out.status) (sym (usage_output words is files)) ends
 
-never : HasRisen 0 0 → ⊥
-never h = omega arith
-
--- where neither reading nor writing fails, a run is complete
-pub is_complete : (status wanted : Status) (bytes before after : List ℕ) → EndsAs status wanted → Takes status bytes before (Some after) → (status ≡ ReadFault → HasRisen 0 0) → (status ≡ WriteFault → HasRisen 0 0) → IsComplete status wanted bytes before after
-is_complete Done wanted bytes before after ends takes read written = (ends, just after (before ++ bytes) takes)
-is_complete Faulted wanted bytes before after ends takes read written = (ends, just after (before ++ bytes) takes)
-is_complete Usage wanted bytes before after ends takes read written = (ends, just after (before ++ bytes) takes)
-is_complete Input wanted bytes before after ends takes read written = (ends, just after (before ++ bytes) takes)
-is_complete Limit wanted bytes before after ends takes read written = (ends, just after (before ++ bytes) takes)
-is_complete Memory wanted bytes before after ends takes read written = just after before takes
-is_complete ReadFault wanted bytes before after ends takes read written = absurd (never (read refl))
-is_complete WriteFault wanted bytes before after ends takes read written = absurd (never (written refl))
+pub usage_takes : (status : Status) (words : List (List ℕ)) (files : Option Files) (before after : Option (List ℕ)) → None ≡ command_of words → IfSome before (λ b. Takes status (usage_line ∷ []) b after) → TakesTold status (output words) files before after
+usage_takes status words None before after is takes = tt
+usage_takes status words (Some files) before after is takes = subst (λ out. IfSome before (λ b. Takes status out.pieces b after)) (sym (usage_output words is files)) takes

@@ -10,7 +10,7 @@ use Rattle.ld_names.specs.Standing.{Known}
 use Rattle.ld_texts.specs.Known.{line_at, lines_at, numbered}
 use Rattle.ld_cmd.specs.declared.fault.What.{What}
 use Rattle.ld_cmd.specs.Chain.{onto, outcomes_onto, stopped_or}
-use Rattle.ld_cmd.specs.Faces.{Outcome, Entry, Fault, outcomes_at, all_from, answer_of, first_fault, text_of, fault_text}
+use Rattle.ld_cmd.specs.Faces.{Outcome, Entry, Fault, outcomes_at, all_from, answer_of, first_fault, text_of}
 
 pub onto-onto : (a b : List ℕ) (r : Result (List ℕ) (List ℕ)) → onto (a ++ b) r ≡ onto a (onto b r)
 onto-onto a b (Ok more) = ap Ok (append_assoc a b more)

@@ -1,41 +1,94 @@
--- How a run may end: which status, and what was taken.
-use Rattle.std.specs.Prelude.{◌≡◌, ℕ, ◌<◌, List, ◌++◌, length, take, Option, Some, None, ◌≢◌, Bool, true, false}
+-- How a run may end: its status, and what its sink has taken then.
+use Rattle.std.specs.Prelude.{◌≡◌, ◌≢◌, ℕ, ◌-◌, ◌<◌, ◌≤◌, List, ◌++◌, length, take, Option, Some, None, ◌⊎◌}
+use Rattle.std.specs.List.{concat}
 use Rattle.ld_cmd.specs.declared.status.Status.{Status}
 use Rattle.ld_cmd.specs.declared.status.Status.TheVariants.{Done, Faulted, Usage, Input, ReadFault, WriteFault, Memory, Limit}
+use Rattle.ld_cmd.specs.Output.{Output}
+use Rattle.ld_cmd.specs.Words.{Command, Faces}
 
--- the status of a run that wrote all it was to write
-abbrev pub is_whole : Status → Bool
-is_whole ReadFault = false
-is_whole WriteFault = false
-is_whole Memory = false
-is_whole status = true
+-- what stops a run before its end
+pub data Interruption : Type 0 where
+  Reading : Interruption
+  Writing : Interruption
+  Room : Interruption
 
--- the status is this one, unless something outside stopped the run
+-- what stopped a run of this status, if anything did
+abbrev pub interruption_of : Status → Option Interruption
+interruption_of Done = None
+interruption_of Faulted = None
+interruption_of Usage = None
+interruption_of Input = None
+interruption_of ReadFault = Some Reading
+interruption_of WriteFault = Some Writing
+interruption_of Memory = Some Room
+interruption_of Limit = None
+
+-- nothing stopped the run
+abbrev pub IsWhole : Status → Type 0
+IsWhole status = interruption_of status ≡ None
+
+-- the status is this one, unless something stopped the run
 abbrev pub EndsAs : Status → Status → Type 0
-EndsAs ReadFault wanted = Unit {0}
-EndsAs WriteFault wanted = Unit {0}
-EndsAs Memory wanted = Unit {0}
-EndsAs status wanted = status ≡ wanted
+EndsAs status wanted = IsWhole status → status ≡ wanted
 
--- what a sink has taken after a run of this status that was to write these bytes
-abbrev pub Takes : Status → List ℕ → List ℕ → Option (List ℕ) → Type 0
-Takes ReadFault bytes before after = after ≡ Some before
-Takes Memory bytes before after = after ≡ Some before
-Takes WriteFault bytes before after = (n : ℕ) × (n < length bytes) × (after ≡ Some (before ++ take n bytes))
-Takes status bytes before after = after ≡ Some (before ++ bytes)
+-- a sink that had taken `before` has taken some of the pieces, each whole: of one piece none, of more all but the last at most
+abbrev pub TakesSome : List (List ℕ) → List ℕ → Option (List ℕ) → Type 0
+TakesSome pieces before after = (n : ℕ) × (n ≤ length pieces - 1) × (after ≡ Some (before ++ concat (take n pieces)))
 
--- nothing is taken where no reading or no memory stopped the run
+-- it has taken a proper prefix of their bytes
+abbrev pub TakesPart : List (List ℕ) → List ℕ → Option (List ℕ) → Type 0
+TakesPart pieces before after = (n : ℕ) × (n < length (concat pieces)) × (after ≡ Some (before ++ take n (concat pieces)))
+
+-- it has taken them all
+abbrev pub TakesAll : List (List ℕ) → List ℕ → Option (List ℕ) → Type 0
+TakesAll pieces before after = after ≡ Some (before ++ concat pieces)
+
+abbrev pub TakesAfter : Option Interruption → List (List ℕ) → List ℕ → Option (List ℕ) → Type 0
+TakesAfter None pieces before after = TakesAll pieces before after
+TakesAfter (Some Reading) pieces before after = TakesSome pieces before after
+TakesAfter (Some Writing) pieces before after = TakesPart pieces before after
+TakesAfter (Some Room) pieces before after = TakesSome pieces before after
+
+-- what a sink has taken of the pieces after a run of this status
+abbrev pub Takes : Status → List (List ℕ) → List ℕ → Option (List ℕ) → Type 0
+Takes status pieces before after = TakesAfter (interruption_of status) pieces before after
+
+-- all was taken under the output's status, or memory was lacking
+abbrev pub IsComplete : Status → Output → List ℕ → Option (List ℕ) → Type 0
+IsComplete status wanted before after =
+    ((status ≡ wanted.status) × TakesAll wanted.pieces before after) ⊎ ((status ≡ Memory) × TakesSome wanted.pieces before after)
+
+-- what was taken before stands in front
+abbrev pub StandsInFront : List ℕ → Option (List ℕ) → Type 0
+StandsInFront before after = (more : List ℕ) × (after ≡ Some (before ++ more))
+
+abbrev pub NothingAfter : Option Interruption → List ℕ → Option (List ℕ) → Type 0
+NothingAfter None before after = Unit {0}
+NothingAfter (Some Reading) before after = after ≡ Some before
+NothingAfter (Some Writing) before after = Unit {0}
+NothingAfter (Some Room) before after = after ≡ Some before
+
+-- nothing is taken where reading or memory stopped the run
 abbrev pub TakesNothing : Status → List ℕ → Option (List ℕ) → Type 0
-TakesNothing ReadFault before after = after ≡ Some before
-TakesNothing Memory before after = after ≡ Some before
-TakesNothing status before after = Unit {0}
+TakesNothing status before after = NothingAfter (interruption_of status) before after
+
+-- the output of this command is one piece
+abbrev pub HasOnePiece : Option Command → Type 0
+HasOnePiece None = Unit {0}
+HasOnePiece (Some (Faces file)) = Unit {0}
 
 -- where no command is named the status is Usage, unless writing or memory stopped the run; elsewhere it is not
-abbrev pub UsageIsExact : Option (List ℕ) → Status → Type 0
+abbrev pub UsageIsExact : Option Command → Status → Type 0
 UsageIsExact None status = EndsAs status Usage × (status ≢ ReadFault)
-UsageIsExact (Some word) status = status ≢ Usage
+UsageIsExact (Some command) status = status ≢ Usage
 
--- the run of this status wrote all of its output, unless memory was lacking: then it wrote nothing
-abbrev pub IsComplete : Status → Status → List ℕ → List ℕ → List ℕ → Type 0
-IsComplete Memory wanted bytes before after = after ≡ before
-IsComplete status wanted bytes before after = (status ≡ wanted) × (after ≡ before ++ bytes)
+-- the exit status of the program
+abbrev pub number_of : Status → ℕ
+number_of Done = 0
+number_of Faulted = 1
+number_of Usage = 2
+number_of Input = 3
+number_of ReadFault = 4
+number_of WriteFault = 5
+number_of Memory = 6
+number_of Limit = 7

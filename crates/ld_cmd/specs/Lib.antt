@@ -2,5 +2,6 @@ pub mod Faces
 pub mod Chain
 pub mod Ending
 pub mod Output
+pub mod Folders
 pub mod Shown
 pub mod Words

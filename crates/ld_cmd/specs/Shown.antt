@@ -5,24 +5,24 @@ use Rattle.ld_cmd.specs.declared.faces.Faces.TheVariants.{Shown, Fault}
 use Rattle.ld_cmd.specs.declared.faces.Outcome.{Outcome as Found}
 use Rattle.ld_cmd.specs.declared.faces.Outcome.TheVariants as found
 use Rattle.ld_cmd.specs.Faces as face
-use Rattle.ld_cmd.specs.declared.make.File.{File}
-use Rattle.ld_cmd.specs.declared.make.File.TheVariants.{Bytes, Absent, TooBig}
+use Rattle.ld_cmd.specs.declared.make.Content.{Content}
+use Rattle.ld_cmd.specs.declared.make.Content.TheVariants.{Bytes, Absent, TooBig}
 use Rattle.ld_cmd.specs.declared.made.Made.{Made}
-use Rattle.ld_cmd.specs.Output.{Output, file_bytes}
+use Rattle.ld_cmd.specs.Output.{Output, file_bytes, one_piece}
 
 -- printed faces, or a printed fault
 abbrev pub shown : Faces → Result (List ℕ) (List ℕ)
 shown (Shown text) = Ok text.items
 shown (Fault text) = Err text.items
 
-abbrev pub made : Made → Output
-made m = record { bytes = m.text.items; status = m.status }
+abbrev pub output_of : Made → Output
+output_of m = one_piece m.text.items m.status
 
 -- what a shelf has at a path
-abbrev pub IsFile : Option (List ℕ) → File → Type 0
-IsFile found (Bytes bytes) = (found ≡ Some bytes.items) × (length bytes.items ≤ file_bytes)
-IsFile found Absent = found ≡ None
-IsFile found TooBig = IsSomeAnd found (λ all. file_bytes < length all)
+abbrev pub IsContent : Option (List ℕ) → Content → Type 0
+IsContent found (Bytes bytes) = (found ≡ Some bytes.items) × (length bytes.items ≤ file_bytes)
+IsContent found Absent = found ≡ None
+IsContent found TooBig = IsSomeAnd found (λ all. file_bytes < length all)
 
 -- what a line with this number gives
 abbrev pub outcomes_shown : ℕ → Found → List face.Outcome

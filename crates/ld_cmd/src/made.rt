@@ -1,5 +1,4 @@
-ghost use Rattle.std.specs.Prelude.{◌≡◌, IsTrue};
-ghost use Rattle.ld_cmd.specs.Ending.{is_whole};
+ghost use Rattle.ld_cmd.specs.Ending.{IsWhole};
 
 use crate::status::Status;
 use std::alloc::{AllocError, AllocFailed};
@@ -9,7 +8,7 @@ use std::alloc::{AllocError, AllocFailed};
 pub(crate) struct Made {
     pub text: Vec<u8>,
     pub status: Status,
-    ghost whole: { IsTrue (is_whole status) },
+    ghost whole: { IsWhole status },
 }
 
 // Why nothing is written.

@@ -4,6 +4,7 @@
 mod entry;
 mod faces;
 mod fault;
+mod folders;
 mod made;
 mod make;
 mod os;
@@ -13,10 +14,10 @@ mod status;
 mod tests;
 mod words;
 
-pub use run::{run, run_in_memory};
+pub use run::run;
 pub use status::Status;
 use std::process::ExitCode;
 
 fn main(rt: HostRuntime) -> ExitCode {
-    ExitCode::from(os::answer(rt) as u8)
+    ExitCode::from(os::answer(rt).number())
 }

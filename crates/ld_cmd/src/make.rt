@@ -1,16 +1,14 @@
-ghost use Rattle.std.specs.Prelude.{◌≡◌, ◌≢◌, ◌≤◌, Err, None, IsSome, MatchResult, ℕ, List, Option, Result, ◌++◌, IfOk, IfSome, IsTrue, codes, map, string_bytes};
+ghost use Rattle.std.specs.Prelude.{◌≡◌, ◌≢◌, ◌≤◌, Err, ℕ, List, Option, Result, ◌++◌, IfOk, IfSome, codes};
 ghost use Rattle.ld_io.specs.Faults.{HasRisen};
 ghost use Rattle.ld_names.specs.Normal.{GivesName};
 ghost use Rattle.ld_names.specs.declared.name.NameError.{NameError};
-ghost use Rattle.ld_cmd.specs.Ending.{is_whole};
-ghost use Rattle.ld_cmd.specs.Output.{after_slash, answered, faces_of, faces_output, named, output, over_text, own_name, usage};
-ghost use Rattle.ld_cmd.specs.Shown.{IsFile, made, shown};
-ghost use Rattle.ld_cmd.specs.Words.{command_of};
+ghost use Rattle.ld_cmd.specs.Ending.{IsWhole};
+ghost use Rattle.ld_cmd.specs.Output.{after_slash, answered, faces_of, faces_output, name_or_default, one_piece, over_text, own_name};
+ghost use Rattle.ld_cmd.specs.Shown.{IsContent, output_of, shown};
 
 use crate::faces::{Faces, print_faces};
 use crate::made::{Made, Stop};
 use crate::status::Status;
-use crate::words::{USAGE, command};
 use itoa::Buffer;
 use ld_io::{FetchError, Fetched, Place, Shelf};
 use ld_line::lines_of;
@@ -29,68 +27,54 @@ const TOTAL_WEIGHT: u64 = 268_435_456;
 
 // What is at a path.
 #[derive(Debug, Drop)]
-enum File {
+enum Content {
     Bytes(Vec<u8>),
     Absent,
     TooBig,
 }
 
-// What the words give over the shelf.
-#[tactic(auto, unfolding(crate::specs::Output::output))]
-pub(crate) fn make_output<S: Shelf>(
-    alloc: Global,
-    words: &[String],
-    shelf: &mut S,
-) -> Result<Made, Stop>
-    ensures told { IfSome (S.files shelf.old) (λ files. IfOk result (λ m. made m ≡ output (map string_bytes words.now) files)) }
-    ensures outside { command_of (map string_bytes words.now) ≡ None → MatchResult result (λ m. made m ≡ usage) (λ e. e ≡ Stop.Memory) }
-    ensures inside { IsSome (command_of (map string_bytes words.now)) → IfOk result (λ m. m.status ≢ Status.Usage) }
+// The faces of the file that a word names.
+pub(crate) fn make_output<S: Shelf>(alloc: Global, word: &[u8], shelf: &mut S) -> Result<Made, Stop>
+    ensures told { IfSome (S.files shelf.old) (λ files. IfOk result (λ m. output_of m ≡ faces_output word.now (files Place.Work word.now))) }
+    ensures no_usage { IfOk result (λ m. m.status ≢ Status.Usage) }
     ensures cause { result ≡ Err Stop.ReadFault → HasRisen (S.faults shelf.old) (S.faults shelf.new) }
     ensures same { S.files shelf.new ≡ S.files shelf.old }
     ensures never_falls { S.faults shelf.old ≤ S.faults shelf.new }
 {
-    match command(words) {
-        None => Ok(Made {
-            text: Vec::from_slice(alloc, USAGE)?,
-            status: Status::Usage,
-        }),
-        Some(word) => {
-            let file = read_file(alloc, word, shelf)?;
-            make_answer(alloc, word, file)
-        }
-    }
+    let content = read_file(alloc, word, shelf)?;
+    make_answer(alloc, word, content)
 }
 
-fn read_file<S: Shelf>(alloc: Global, word: &[u8], shelf: &mut S) -> Result<File, Stop>
-    ensures told { IfSome (S.files shelf.old) (λ files. IfOk result (λ file. IsFile (files Place.Work word.now) file)) }
+fn read_file<S: Shelf>(alloc: Global, word: &[u8], shelf: &mut S) -> Result<Content, Stop>
+    ensures told { IfSome (S.files shelf.old) (λ files. IfOk result (λ content. IsContent (files Place.Work word.now) content)) }
     ensures cause { result ≡ Err Stop.ReadFault → HasRisen (S.faults shelf.old) (S.faults shelf.new) }
     ensures same { S.files shelf.new ≡ S.files shelf.old }
     ensures never_falls { S.faults shelf.old ≤ S.faults shelf.new }
 {
     let mut bytes = Vec::new(alloc);
     match shelf.fetch(Place::Work, word, FILE_BYTES, &mut bytes) {
-        Ok(Fetched::Found) => Ok(File::Bytes(bytes)),
-        Ok(Fetched::Absent) => Ok(File::Absent),
-        Err(FetchError::TooBig) => Ok(File::TooBig),
+        Ok(Fetched::Found) => Ok(Content::Bytes(bytes)),
+        Ok(Fetched::Absent) => Ok(Content::Absent),
+        Err(FetchError::TooBig) => Ok(Content::TooBig),
         Err(FetchError::Failed) => Err(Stop::ReadFault),
         Err(FetchError::Memory) => Err(Stop::Memory),
     }
 }
 
-fn make_answer(alloc: Global, word: &[u8], file: File) -> Result<Made, Stop>
-    ensures made { (found : Option (List ℕ)) → IsFile found file → IfOk result (λ m. made m ≡ faces_output word.now found) }
+fn make_answer(alloc: Global, word: &[u8], content: Content) -> Result<Made, Stop>
+    ensures made { (found : Option (List ℕ)) → IsContent found content → IfOk result (λ m. output_of m ≡ faces_output word.now found) }
     ensures no_usage { IfOk result (λ m. m.status ≢ Status.Usage) }
     ensures no_fault { result ≢ Err Stop.ReadFault }
 {
-    match file {
-        File::Bytes(bytes) => make_faces(alloc, word, bytes.as_slice()),
-        File::Absent => about_file(alloc, b"absent ", word, Status::Input),
-        File::TooBig => about_file(alloc, b"toobig ", word, Status::Limit),
+    match content {
+        Content::Bytes(bytes) => make_faces(alloc, word, bytes.as_slice()),
+        Content::Absent => about_file(alloc, b"absent ", word, Status::Input),
+        Content::TooBig => about_file(alloc, b"toobig ", word, Status::Limit),
     }
 }
 
 fn make_faces(alloc: Global, word: &[u8], bytes: &[u8]) -> Result<Made, Stop>
-    ensures made { IfOk result (λ m. made m ≡ faces_of word.now bytes.now) }
+    ensures made { IfOk result (λ m. output_of m ≡ faces_of word.now bytes.now) }
     ensures no_usage { IfOk result (λ m. m.status ≢ Status.Usage) }
     ensures no_fault { result ≢ Err Stop.ReadFault }
 {
@@ -112,7 +96,7 @@ fn make_faces(alloc: Global, word: &[u8], bytes: &[u8]) -> Result<Made, Stop>
 }
 
 fn make_whole(faces: Faces) -> Made
-    ensures made { made result ≡ answered (shown faces) }
+    ensures made { output_of result ≡ answered (shown faces) }
     ensures no_usage { result.status ≢ Status.Usage }
 {
     match faces {
@@ -129,7 +113,7 @@ fn make_whole(faces: Faces) -> Made
 
 // The line about a limit that is passed, with what was kept before it.
 fn make_full(alloc: Global, over: Over) -> Result<Made, Stop>
-    ensures made { IfOk result (λ m. made m ≡ record { bytes = over_text over; status = Status.Limit }) }
+    ensures made { IfOk result (λ m. output_of m ≡ one_piece (over_text over) Status.Limit) }
     ensures no_usage { IfOk result (λ m. m.status ≢ Status.Usage) }
     ensures no_fault { result ≢ Err Stop.ReadFault }
 {
@@ -148,8 +132,8 @@ fn make_full(alloc: Global, over: Over) -> Result<Made, Stop>
 
 // A line about the file that a word names.
 fn about_file(alloc: Global, what: &[u8], word: &[u8], status: Status) -> Result<Made, Stop>
-    requires { IsTrue (is_whole status) }
-    ensures made { IfOk result (λ m. made m ≡ record { bytes = what.now ++ word.now ++ codes "\n"; status = status }) }
+    requires { IsWhole status }
+    ensures made { IfOk result (λ m. output_of m ≡ one_piece (what.now ++ word.now ++ codes "\n") status) }
     ensures status { IfOk result (λ m. m.status ≡ status) }
     ensures no_fault { result ≢ Err Stop.ReadFault }
 {
@@ -172,7 +156,7 @@ fn own_name(alloc: Global, word: &[u8]) -> Result<Name, AllocError>
 
 // The name of a model whose file's name has no normal form.
 fn default_name(alloc: Global, error: NameError) -> Result<Name, AllocError>
-    ensures { (wanted : Result (List ℕ) NameError) → GivesName (Err error) wanted → IfOk result (λ name. name ≡ named wanted) }
+    ensures { (wanted : Result (List ℕ) NameError) → GivesName (Err error) wanted → IfOk result (λ name. name ≡ name_or_default wanted) }
 {
     match error {
         NameError::Memory => Err(AllocError),

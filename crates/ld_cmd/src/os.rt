@@ -1,9 +1,12 @@
 // The command line, the disk and standard output: the one part that no test in memory reaches.
+ghost use Rattle.std.specs.Prelude.{◌≡◌, IfOk, map, string_bytes};
+ghost use Rattle.ld_cmd.specs.Folders.{model_folder};
+
+use crate::folders::{Unusable, library_folder, model_folder};
 use crate::run::run;
 use crate::status::Status;
 use ld_io::{OsShelf, StdSink};
-use std::alloc::AllocError;
-use std::env::VarError;
+use std::alloc::{AllocError, Global};
 use std::rt::{Env, Files};
 use std::{env, io};
 
@@ -12,25 +15,6 @@ use std::{env, io};
 struct Given {
     words: Vec<String>,
     library: String,
-}
-
-// Why the command line can't be used.
-enum Unusable {
-    // A word, or the library's folder, is not UTF-8.
-    NotText,
-    Memory,
-}
-
-impl From<AllocError> for Unusable {
-    fn from(_error: AllocError) -> Unusable {
-        Unusable::Memory
-    }
-}
-
-impl<T: Drop> From<std::alloc::AllocFailed<T>> for Unusable {
-    fn from(_error: std::alloc::AllocFailed<T>) -> Unusable {
-        Unusable::Memory
-    }
 }
 
 /// Answers the command line.
@@ -52,21 +36,29 @@ pub(crate) fn answer<R: Env + Files + Print + AllocGlobal + Copy>(rt: R) -> Stat
 fn answer_words<R: Env + Files + Print + AllocGlobal + Copy>(rt: R, given: Given) -> Status {
     let alloc = rt.alloc();
     let Given { words, library } = given;
-    let Ok(model) = String::from_str(alloc, model_folder(words.as_slice())) else {
+    let Ok(mut shelf) = shelf_of(alloc, rt, words.as_slice(), library) else {
         return Status::Memory;
     };
-    let mut shelf = OsShelf::new(rt, library, model);
     let mut out = StdSink::new(rt);
     run(alloc, words.as_slice(), &mut shelf, &mut out)
 }
 
+// The files of the system, by the folders that the words and the environment name.
+fn shelf_of<R: Drop>(
+    alloc: Global,
+    rt: R,
+    words: &[String],
+    library: String,
+) -> Result<OsShelf<R>, AllocError>
+    ensures model { IfOk result (λ shelf. shelf.model ≡ model_folder (map string_bytes words.now)) }
+    ensures library { IfOk result (λ shelf. shelf.library ≡ string_bytes library) }
+{
+    let model = String::from_str(alloc, model_folder(words))?;
+    Ok(OsShelf::new(rt, library, model))
+}
+
 fn ask<R: Env + AllocGlobal>(rt: &R) -> Result<Given, Unusable> {
-    let library = match env::var(rt, "LDRAWDIR") {
-        Ok(folder) => folder,
-        Err(VarError::NotPresent) => String::from_str(rt.alloc(), "ldraw")?,
-        Err(VarError::NotUnicode) => return Err(Unusable::NotText),
-        Err(VarError::OutOfMemory) => return Err(Unusable::Memory),
-    };
+    let library = library_folder(rt.alloc(), env::var(rt, "LDRAWDIR"))?;
     let mut words = Vec::new(rt.alloc());
     match env::args(rt) {
         Ok(args) => {
@@ -78,16 +70,4 @@ fn ask<R: Env + AllocGlobal>(rt: &R) -> Result<Given, Unusable> {
         Err(_) => return Err(Unusable::NotText),
     }
     Ok(Given { words, library })
-}
-
-// The folder of the model: what stands before the last `/` of the second word.
-fn model_folder(words: &[String]) -> &str {
-    let Some(file) = words.get(1) else {
-        return ".";
-    };
-    match file.as_str().rsplit_once('/') {
-        None => ".",
-        Some((folder, _)) if folder.is_empty() => "/",
-        Some((folder, _)) => folder,
-    }
 }

@@ -1,77 +1,94 @@
-ghost use Rattle.std.specs.Prelude.{◌≡◌, ◌≢◌, ◌≤◌, IfSome, None, is_some, map, string_bytes};
+ghost use Rattle.std.specs.Prelude.{◌≡◌, ◌≢◌, ◌≤◌, ◌∷◌, [], IfSome, None, Some, is_some, map, string_bytes};
 ghost use Rattle.ld_io.specs.Faults.{HasRisen};
-ghost use Rattle.ld_io.specs.Files.{file_found};
-ghost use Rattle.ld_cmd.specs.Ending.{EndsAs, IsComplete, Takes, TakesNothing, UsageIsExact};
-ghost use Rattle.ld_cmd.specs.Output.{output};
+ghost use Rattle.ld_cmd.specs.Ending.{EndsAs, HasOnePiece, IsComplete, IsWhole, StandsInFront, Takes, TakesNothing, UsageIsExact};
+ghost use Rattle.ld_cmd.specs.Output.{faces_output, output};
 ghost use Rattle.ld_cmd.specs.Words.{command_of, usage_line};
 
-use crate::made::{Made, Stop};
+use crate::made::Stop;
 use crate::make::make_output;
 use crate::status::Status;
-use ld_io::{PutError, Shelf, Sink, SureShelf, SureSink};
+use crate::words::{USAGE, faces_file};
+use ld_io::{Place, PutError, Shelf, Sink};
 use std::alloc::Global;
 
 /// Runs the command that the words name (the words after the program's name): reads its files from
-/// the shelf, and writes what it gives into the sink, in one piece.
+/// the shelf, and writes what it gives into the sink, piece by piece. An empty piece is not put.
+#[tactic(auto, unfolding(crate::specs::Output::output))]
 pub fn run<S: Shelf, K: Sink>(alloc: Global, words: &[String], shelf: &mut S, out: &mut K) -> Status
     // Over told files, the status is that of the output, and where the sink tells too, what it
-    // took is the output's bytes.
+    // took is of the output's pieces.
     ensures status { IfSome (S.files shelf.old)
         (λ files. EndsAs result (output (map string_bytes words.now) files).status) }
     ensures taken { IfSome (S.files shelf.old) (λ files. IfSome (K.taken out.old)
-        (λ before. Takes result (output (map string_bytes words.now) files).bytes before (K.taken out.new))) }
+        (λ before. Takes result (output (map string_bytes words.now) files).pieces before (K.taken out.new))) }
+
+    // Where no read and no write failed, all of it, or memory was lacking.
+    ensures complete { ¬ (HasRisen (S.faults shelf.old) (S.faults shelf.new)) → ¬ (HasRisen (K.faults out.old) (K.faults out.new))
+        → IfSome (S.files shelf.old) (λ files. IfSome (K.taken out.old)
+        (λ before. IsComplete result (output (map string_bytes words.now) files) before (K.taken out.new))) }
 
     // Over every shelf, words outside the grammar and no others give the usage line.
     ensures usage { UsageIsExact (command_of (map string_bytes words.now)) result }
     ensures usage_taken { command_of (map string_bytes words.now) ≡ None → IfSome (K.taken out.old)
-        (λ before. Takes result usage_line before (K.taken out.new)) }
+        (λ before. Takes result (usage_line ∷ []) before (K.taken out.new)) }
 
     ensures read_cause { result ≡ Status.ReadFault → HasRisen (S.faults shelf.old) (S.faults shelf.new) }
     ensures write_cause { result ≡ Status.WriteFault → HasRisen (K.faults out.old) (K.faults out.new) }
-    ensures nothing { IfSome (K.taken out.old) (λ before. TakesNothing result before (K.taken out.new)) }
+    ensures nothing { HasOnePiece (command_of (map string_bytes words.now)) → IfSome (K.taken out.old)
+        (λ before. TakesNothing result before (K.taken out.new)) }
+    ensures in_front { IfSome (K.taken out.old) (λ before. StandsInFront before (K.taken out.new)) }
 
     ensures same_files { S.files shelf.new ≡ S.files shelf.old }
     ensures told_same { is_some (K.taken out.new) ≡ is_some (K.taken out.old) }
     ensures shelf_faults { S.faults shelf.old ≤ S.faults shelf.new }
     ensures sink_faults { K.faults out.old ≤ K.faults out.new }
 {
-    match make_output(alloc, words, shelf) {
-        Ok(made) => write(made, out),
+    match faces_file(words) {
+        Some(file) => show_faces(alloc, file, shelf, out),
+        None => put_last(out, USAGE, Status::Usage),
+    }
+}
+
+// Shows the faces of the file that a word names.
+fn show_faces<S: Shelf, K: Sink>(alloc: Global, word: &[u8], shelf: &mut S, out: &mut K) -> Status
+    ensures status { IfSome (S.files shelf.old)
+        (λ files. EndsAs result (faces_output word.now (files Place.Work word.now)).status) }
+    ensures taken { IfSome (S.files shelf.old) (λ files. IfSome (K.taken out.old)
+        (λ before. Takes result (faces_output word.now (files Place.Work word.now)).pieces before (K.taken out.new))) }
+    ensures no_usage { result ≢ Status.Usage }
+    ensures read_cause { result ≡ Status.ReadFault → HasRisen (S.faults shelf.old) (S.faults shelf.new) }
+    ensures write_cause { result ≡ Status.WriteFault → HasRisen (K.faults out.old) (K.faults out.new) }
+    ensures nothing { IfSome (K.taken out.old) (λ before. TakesNothing result before (K.taken out.new)) }
+    ensures in_front { IfSome (K.taken out.old) (λ before. StandsInFront before (K.taken out.new)) }
+    ensures same_files { S.files shelf.new ≡ S.files shelf.old }
+    ensures told_same { is_some (K.taken out.new) ≡ is_some (K.taken out.old) }
+    ensures shelf_faults { S.faults shelf.old ≤ S.faults shelf.new }
+    ensures sink_faults { K.faults out.old ≤ K.faults out.new }
+{
+    match make_output(alloc, word, shelf) {
+        Ok(made) => put_last(out, made.text.as_slice(), made.status),
         Err(Stop::ReadFault) => Status::ReadFault,
         Err(Stop::Memory) => Status::Memory,
     }
 }
 
-/// Runs a command over files in memory, which neither reading nor writing keeps from its whole
-/// output.
-#[tactic(auto, using(crate::proofs::Endings::is_complete))]
-pub fn run_in_memory(
-    alloc: Global,
-    words: &[String],
-    shelf: &mut SureShelf,
-    out: &mut SureSink,
-) -> Status
-    ensures { let wanted = output (map string_bytes words.now) (file_found shelf.old) in
-        IsComplete result wanted.status wanted.bytes out.old out.new }
-{
-    run(alloc, words, shelf, out)
-}
-
-#[tactic(auto, using(crate::proofs::Endings::takes_whole))]
-fn write<K: Sink>(made: Made, out: &mut K) -> Status
-    ensures status { EndsAs result made.status }
-    ensures taken { IfSome (K.taken out.old) (λ before. Takes result made.text.items before (K.taken out.new)) }
+// Puts the last piece, unless it is empty, and ends with this status.
+fn put_last<K: Sink>(out: &mut K, piece: &[u8], status: Status) -> Status
+    requires { IsWhole status }
+    ensures status { EndsAs result status }
+    ensures taken { IfSome (K.taken out.old) (λ before. Takes result (piece.now ∷ []) before (K.taken out.new)) }
     ensures cause { result ≡ Status.WriteFault → HasRisen (K.faults out.old) (K.faults out.new) }
     ensures never_read { result ≢ Status.ReadFault }
     ensures nothing { IfSome (K.taken out.old) (λ before. TakesNothing result before (K.taken out.new)) }
+    ensures in_front { IfSome (K.taken out.old) (λ before. StandsInFront before (K.taken out.new)) }
     ensures told_same { is_some (K.taken out.new) ≡ is_some (K.taken out.old) }
     ensures never_falls { K.faults out.old ≤ K.faults out.new }
 {
-    if made.text.is_empty() {
-        return made.status;
+    if piece.is_empty() {
+        return status;
     }
-    match out.put(made.text.as_slice()) {
-        Ok(()) => made.status,
+    match out.put(piece) {
+        Ok(()) => status,
         Err(PutError::Failed) => Status::WriteFault,
         Err(PutError::Memory) => Status::Memory,
     }

@@ -1,4 +1,7 @@
-/// How a run ends. The program's exit status is the number of the variant, from 0.
+ghost use Rattle.std.specs.Prelude.{◌≡◌};
+ghost use Rattle.ld_cmd.specs.Ending.{number_of};
+
+/// How a run ends.
 #[derive(Clone, Copy, Debug, PartialEq, Eq)]
 pub enum Status {
     /// The answer was written.
@@ -17,4 +20,13 @@ pub enum Status {
     Memory,
     /// A file or the texts together are too big.
     Limit,
+}
+
+impl Status {
+    /// The exit status of the program: 0 for `Done`, then up to 7 in the order above.
+    pub fn number(self) -> u8
+        ensures { result ≡ number_of self }
+    {
+        self as u8
+    }
 }

@@ -1,13 +1,13 @@
 ghost use Rattle.std.specs.Prelude.{◌≡◌, map, string_bytes};
 ghost use Rattle.std.specs.Option.{option_map};
-ghost use Rattle.ld_cmd.specs.Words.{command_of, is_positional, usage_line};
+ghost use Rattle.ld_cmd.specs.Words.{Faces, command_of, is_positional, usage_line};
 
 pub(crate) const USAGE: &[u8] =
     b"usage: ldraw (faces|steps|parts|inline|check) FILE | replay FILE SCRIPT | gen N\n";
 
 // The file whose faces are asked for, if the words are a command.
-pub(crate) fn command(words: &[String]) -> Option<&[u8]>
-    ensures { option_map (λ file. file.now) result ≡ command_of (map string_bytes words.now) }
+pub(crate) fn faces_file(words: &[String]) -> Option<&[u8]>
+    ensures { option_map (λ file. Faces file.now) result ≡ command_of (map string_bytes words.now) }
 {
     match words {
         [command, file] if command.as_str() == "faces" && positional(file.as_bytes()) => {

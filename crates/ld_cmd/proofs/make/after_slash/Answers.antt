@@ -1,4 +1,4 @@
-use Rattle.std.proofs.Common.{◌≡◌, ℕ, Bool, true, false, cond, List, [], ◌∷◌, refl, ap, tests, arith}
+use Rattle.std.proofs.Common.{◌≡◌, ℕ, cond, List, [], ◌∷◌, refl, tests, arith}
 use Rattle.std.specs.List.{list_any}
 use Rattle.ld_cmd.specs.Output.{after_slash, is_slash}
 use Rattle.ld_cmd.proofs.make.after_slash.Goals as goal

@@ -9,6 +9,7 @@ use Rattle.ld_line.specs.Cut.{lines_of}
 use Rattle.ld_line.specs.Field.{after_field, fields}
 use Rattle.ld_line.specs.Reading.{line_of}
 use Rattle.ld_cmd.specs.Faces.{answer_of}
+use Rattle.std.specs.Path.{rsplit_once}
 use Rattle.ld_cmd.specs.Output.{output}
 use Rattle.ld_cmd.proofs.tests.outputs_by_definition.Goals as goal
 
@@ -27,3 +28,11 @@ returns-clause-rounding c = refl
 pub returns-clause-out_of_range : goal.returns-clause-out_of_range
 unfolding output digits answer_of lines_of line_of block_line_of fields after_field colour_word normal_of dec_of powers_of numeral_of millionths_of dec_text
 returns-clause-out_of_range c = refl
+
+pub returns-clause-folder : goal.returns-clause-folder
+unfolding rsplit_once
+returns-clause-folder c = refl
+
+pub returns-clause-root : goal.returns-clause-root
+unfolding rsplit_once
+returns-clause-root c = refl

@@ -1,0 +1,65 @@
+// Where files lie, by the words and by the environment.
+ghost use Rattle.std.specs.Prelude.{◌≡◌, ◌⊎◌, Err, map, string_bytes};
+ghost use Rattle.std.specs.Path.{rsplit_once, slash};
+ghost use Rattle.std.specs.Result.{result_map_both};
+ghost use Rattle.ld_cmd.specs.Folders.{folder_in, library_folder, model_folder};
+
+use std::alloc::{AllocError, AllocFailed, Global};
+use std::env::VarError;
+
+// Why the command line can't be used.
+#[derive(Clone, Copy, Debug, PartialEq, Eq)]
+pub(crate) enum Unusable {
+    // A word, or the library's folder, is not UTF-8.
+    NotText,
+    Memory,
+}
+
+impl From<AllocError> for Unusable {
+    fn from(_error: AllocError) -> Unusable {
+        Unusable::Memory
+    }
+}
+
+impl<T: Drop> From<AllocFailed<T>> for Unusable {
+    fn from(_error: AllocFailed<T>) -> Unusable {
+        Unusable::Memory
+    }
+}
+
+// The folder of the library, by what `LDRAWDIR` says.
+pub(crate) fn library_folder(
+    alloc: Global,
+    set: Result<String, VarError>,
+) -> Result<String, Unusable>
+    ensures { (result ≡ Err Unusable.Memory) ⊎ (result_map_both string_bytes (λ e. e) result ≡ library_folder (result_map_both string_bytes (λ e. e) set)) }
+{
+    match set {
+        Ok(folder) => Ok(folder),
+        Err(VarError::NotPresent) => match String::from_str(alloc, "ldraw") {
+            Ok(folder) => Ok(folder),
+            Err(_) => Err(Unusable::Memory),
+        },
+        Err(VarError::NotUnicode) => Err(Unusable::NotText),
+        Err(VarError::OutOfMemory) => Err(Unusable::Memory),
+    }
+}
+
+// The folder of the model.
+pub(crate) fn model_folder(words: &[String]) -> &str
+    ensures { result.now ≡ model_folder (map string_bytes words.now) }
+{
+    match words {
+        [_, file, ..] => folder_of(file.as_str()),
+        _ => ".",
+    }
+}
+
+fn folder_of(word: &str) -> &str
+    ensures { result.now ≡ folder_in (rsplit_once slash word.now) }
+{
+    match word.rfind('/') {
+        Some(end) => { if end == 0 { "/" } else { &word[..end] } }
+        None => ".",
+    }
+}
