@@ -1,0 +1,4 @@
+pub mod Blocks
+pub mod Joining
+pub mod Laws
+pub mod Seen
