@@ -8,7 +8,8 @@ use ld_line::{Kind, Winding};
 use ld_num::{Placement, Point, place};
 
 /// What a reference makes of an entry of the file that it refers to: its used points go through
-/// the placement, its colour is found under the reference's, and culling is passed down. Of a part
+/// the placement, its colour is found under the reference's, and culling is passed down (File
+/// Format 1.0.2, "Line Type 1" and "Colours"; Back Face Culling Language Extension). Of a part
 /// entry the colour alone changes. No memory is taken.
 ///
 /// # Errors
