@@ -1,4 +1,3 @@
 mod Lawful
-mod LineCount
-mod Rests
+mod Marks
 mod Tables

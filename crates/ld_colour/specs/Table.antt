@@ -1,6 +1,6 @@
 -- Tables of colours: Colour Definition Language Extension. That the last definition of a code counts, and that an EDGE
 -- code is looked up in the whole file, is this project's own.
-use Rattle.std.specs.Prelude.{◌≡◌, ◌≢◌, ◌+◌, ◌==◌, ℕ, List, [], ◌∷◌, map, Option, Some, None, Result, Ok, Err, if◌then◌else◌}
+use Rattle.std.specs.Prelude.{◌≡◌, ◌+◌, ◌==◌, ℕ, List, [], ◌∷◌, map, Option, Some, None, IsSome, Result, Ok, Err, if◌then◌else◌}
 use Rattle.std.specs.BTreeMap.{is_at}
 use Rattle.std.specs.Map.{lookup}
 use Rattle.std.specs.Ordering.{nat_cmp}
@@ -57,10 +57,10 @@ tabled (Err number) = Err number
 abbrev pub table_in : List ℕ → Result Counting ℕ
 table_in bytes = tabled (definitions_of bytes)
 
--- why a colour file is refused: its first bad line, or want of memory for its lines
-abbrev pub IsRefused : List ℕ → TableError → Type 0
-IsRefused bytes (BadColour number) = table_in bytes ≡ Err number
-IsRefused bytes Memory = lines_of bytes ≢ []
+-- why a table is refused: its first bad line, or want of memory where some code is defined
+abbrev pub IsRefused : Result Counting ℕ → TableError → Type 0
+IsRefused table (BadColour number) = table ≡ Err number
+IsRefused table Memory = (defined : Counting) × (code : ℕ) × (table ≡ Ok defined) × IsSome (defined code)
 
 abbrev pub value_by : Option Definition → Option ℕ
 value_by None = None
@@ -93,8 +93,12 @@ abbrev pub overruled : Counting → Result (List (ℕ × Definition)) ℕ → Re
 overruled so_far (Ok definitions) = Ok (λ code. or_else (last_of definitions code) (so_far code))
 overruled so_far (Err number) = Err number
 
--- a line with a number brings what counts to what counts then, whatever lines follow
-abbrev pub IsStep : Counting → Counting → ℕ → List ℕ → Result (Unit {0}) TableError → Type 0
-IsStep so_far after number line (Ok done) = (lines : List ColourLine) → overruled so_far (definitions_from number (colour_line line ∷ lines)) ≡ overruled after (definitions_from (number + 1) lines)
-IsStep so_far after number line (Err (BadColour bad)) = (bad ≡ number) × (colour_line line ≡ Bad)
-IsStep so_far after number line (Err Memory) = Unit {0}
+-- the number of the first bad line
+abbrev pub bad_in : {A : Type 0} → Result A ℕ → Option ℕ
+bad_in (Ok definitions) = None
+bad_in (Err number) = Some number
+
+-- a bad line counts before want of memory
+abbrev pub refused_by : Option ℕ → TableError
+refused_by (Some number) = BadColour number
+refused_by None = Memory

@@ -122,7 +122,6 @@ fn six_digits(digits: &[u8]) -> Option<u32>
 }
 
 // Whether ALPHA and LUMINANCE have their numbers up to the end, or up to where a finish begins.
-#[tactic(auto, using(crate::proofs::Rests::finished))]
 fn is_rest(line: &[u8]) -> bool
     ensures { result ≡ is_rest (fields line.now) }
 {

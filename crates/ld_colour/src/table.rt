@@ -1,9 +1,11 @@
-ghost use Rattle.std.specs.Prelude.{◌≡◌, ◌<◌, ◌^◌, ℕ, IfErr, IfOk, None, Ok, length};
-ghost use Rattle.ld_colour.specs.Table.{IsRefused, IsStep, counting, edge_in, rgb_in, table_in, value_in};
+ghost use Rattle.std.specs.Prelude.{◌≡◌, ◌<◌, ◌+◌, ◌^◌, ◌∷◌, IfErr, IfOk, None, Ok, OnOk, length, map};
+ghost use Rattle.ld_line.specs.Cut.{lines_from};
+ghost use Rattle.ld_colour.specs.Definition.{colour_line};
+ghost use Rattle.ld_colour.specs.Table.{IsRefused, bad_in, counting, definitions_from, edge_in, overruled, refused_by, rgb_in, table_in, value_in};
 
 use crate::colour::Colour;
 use crate::definition::{ColourLine, DefinedEdge, Definition, colour_line};
-use ld_line::lines_of;
+use ld_line::{split_line, unmarked};
 use std::alloc::{AllocError, Global};
 use std::collections::BTreeMap;
 use std::marker::Model;
@@ -53,27 +55,30 @@ impl Table {
         }
     }
 
-    /// The table of a colour file's lines.
+    /// The table of a colour file's lines. Want of memory comes only where every definition is in the
+    /// grammar.
     pub fn read(alloc: Global, bytes: &[u8]) -> Result<Table, TableError>
         requires { length bytes.now < 2 ^ 32 }
         ensures read { IfOk result (λ table. table_in bytes.now ≡ Ok (counting table)) }
-        ensures refused { IfErr result (λ e. IsRefused bytes.now e) }
+        ensures refused { IfErr result (λ e. IsRefused (table_in bytes.now) e) }
     {
-        let lines = lines_of(alloc, bytes)?;
         let mut table = Table::empty(alloc);
-        let mut rest = lines.as_slice();
+        let mut rest = unmarked(bytes);
         let mut number = 0u32;
-        while let Some((line, more)) = rest.split_first() {
+        while let Some((line, more)) = split_line(rest) {
             number += 1;
-            table.enter(number, line.as_slice())?;
+            table.enter(number, line, more)?;
             rest = more;
         }
         Ok(table)
     }
 
     // What the line with this number defines counts from here on.
-    fn enter(&mut self, number: u32, line: &[u8]) -> Result<(), TableError>
-        ensures { IsStep (counting self.old) (counting self.new) number line.now result }
+    fn enter(&mut self, number: u32, line: &[u8], behind: &[u8]) -> Result<(), TableError>
+        requires { number + length behind.now < 2 ^ 32 }
+        ensures entered { OnOk result (overruled (counting self.old) (definitions_from number (colour_line line.now ∷ map colour_line (lines_from behind.now)))
+            ≡ overruled (counting self.new) (definitions_from (number + 1) (map colour_line (lines_from behind.now)))) }
+        ensures refused { IfErr result (λ e. IsRefused (overruled (counting self.old) (definitions_from number (colour_line line.now ∷ map colour_line (lines_from behind.now)))) e) }
     {
         match colour_line(line) {
             ColourLine::Other => Ok(()),
@@ -81,7 +86,7 @@ impl Table {
             ColourLine::Defines(code, definition) => {
                 match self.definitions.insert(code, definition) {
                     Ok(_) => Ok(()),
-                    Err(_) => Err(TableError::Memory),
+                    Err(_) => Err(refusal(number, behind)),
                 }
             }
         }
@@ -122,4 +127,21 @@ impl Table {
             None => None,
         }
     }
+}
+
+// The first bad line behind the one with this number, or else want of memory.
+fn refusal(before: u32, behind: &[u8]) -> TableError
+    requires { before + length behind.now < 2 ^ 32 }
+    ensures { result ≡ refused_by (bad_in (definitions_from (before + 1) (map colour_line (lines_from behind.now)))) }
+{
+    let mut rest = behind;
+    let mut number = before;
+    while let Some((line, more)) = split_line(rest) {
+        number += 1;
+        if colour_line(line) == ColourLine::Bad {
+            return TableError::BadColour(number);
+        }
+        rest = more;
+    }
+    TableError::Memory
 }
