@@ -2,3 +2,4 @@ pub mod Known
 pub mod Learning
 pub mod Laws
 pub mod Inside
+pub mod Reach
