@@ -10,7 +10,7 @@ use Rattle.ld_names.specs.Normal.{is_blank, trim_start}
 use Rattle.ld_line.specs.Field.{fields, is_field, after_field}
 
 -- blanks before a field are no field
-fields-blank : (x : ℕ) (xs : List ℕ) → is_blank x ≡ true → fields (x ∷ xs) ≡ fields xs
+pub fields-blank : (x : ℕ) (xs : List ℕ) → is_blank x ≡ true → fields (x ∷ xs) ≡ fields xs
 unfolding fields
 fields-blank x xs blank = rw blank refl
 

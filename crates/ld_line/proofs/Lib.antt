@@ -4,6 +4,7 @@ pub mod Drawn
 pub mod Ends
 pub mod Fields
 pub mod Files
+pub mod Fronts
 pub mod OtherLines
 pub mod Rotations
 pub mod Steps

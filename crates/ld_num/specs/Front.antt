@@ -1,5 +1,5 @@
 -- A numeral at the front of a text.
-use Rattle.std.specs.Prelude.{◌≡◌, ℕ, ◌+◌, ◌<◌, ◌≤◌, Bool, true, if◌then◌else◌, List, [], ◌∷◌, ◌++◌, length, min, take, ℤ, Ok}
+use Rattle.std.specs.Prelude.{◌≡◌, ℕ, ◌+◌, ◌<◌, ◌≤◌, ◌==◌, ◌||◌, Bool, true, if◌then◌else◌, List, [], ◌∷◌, ◌++◌, length, min, take, ℤ, Ok}
 use Rattle.std.specs.List.{list_all}
 use Rattle.std.specs.Str.Parse.{AllDigits}
 use Rattle.ld_num.specs.Number.{Numeral, dec_of, millionths_of}
@@ -24,9 +24,15 @@ pub record IsFront (text : List ℕ) (size count : ℕ) : Type 0 where
 abbrev pub minus_if : Bool → List ℕ
 minus_if is_negative = if is_negative then 45 ∷ [] else []
 
+-- nothing, or a space or tab first
+abbrev pub is_field_end : List ℕ → Bool
+is_field_end [] = true
+is_field_end (b ∷ bytes) = (b == 32) || (b == 9)
+
 -- the text is a numeral of this number, which has digits, a minus and a period alone, with the rest behind it
 pub record StartsWith (text : List ℕ) (value : ℤ) (rest : List ℕ) : Type 0 where
   pub front : List ℕ
   pub is_text : text ≡ front ++ rest
   pub read : dec_of front ≡ Ok value
   pub bytes : list_all is_numeral_byte front ≡ true
+  pub ends : is_field_end rest ≡ true

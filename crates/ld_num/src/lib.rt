@@ -16,7 +16,7 @@ pub use laws::print_law;
 pub use placing::{mirrored, place};
 pub use point::{Placement, Point};
 pub use print::print_dec;
-pub use read::read_dec;
+pub use read::{read_dec, split_dec};
 
 #[cfg(test)]
 mod tests;

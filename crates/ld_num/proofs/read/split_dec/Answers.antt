@@ -18,4 +18,5 @@ returns c =
       is_text = c.split_minus-is_negative.ensures ∙ ap (λ xs. minus_if sign ++ xs) (sym (take-append-drop count digits)) ∙ sym (append_assoc (minus_if sign) (take count digits) (drop count digits)) ∙ ap (λ xs. (minus_if sign ++ take count digits) ++ xs) (sym c.split_at.ensures.back);
       read = front_read digits size count sign c.in-Ok.number front range;
       bytes = front_bytes digits size count sign front;
+      ends = search rules;
     }
