@@ -57,5 +57,5 @@ next_is line text rest value trimmed s =
     record {
       numbers = λ count. rw (split, s.read) refl;
       rest_is = sym (drop_at s.front rest (length s.front) refl) ∙ ap (drop (length s.front)) (sym whole) ∙ ap (λ n. drop n (trim_start line)) (sym place);
-      fields_left = ap (drop 1) (sym split)
+      fields_left = ap (drop 1) (sym split);
     }
