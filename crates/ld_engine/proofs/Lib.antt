@@ -1,0 +1,7 @@
+pub mod Reached
+pub mod Gone
+pub mod Gathered
+pub mod Expanded
+pub mod Numbered
+pub mod Learned
+pub mod Roots

@@ -1,0 +1,10 @@
+pub mod Asking
+pub mod Fetching
+pub mod Found
+pub mod Gathering
+pub mod Going
+pub mod Keeping
+pub mod Learning
+pub mod Limits
+pub mod Stopping
+pub mod Workspace

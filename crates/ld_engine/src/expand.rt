@@ -1,0 +1,234 @@
+// Recursive expansion of the known texts: each text's entries are made below nothing, and carried
+// through the reference that enters it.
+ghost use Rattle.std.specs.Prelude.{◌≡◌, ◌≤◌, ◌==◌, ◌∷◌, [], ◌++◌, ℕ, IfOk, List, None, OnOk};
+ghost use Rattle.std.specs.List.{list_any};
+ghost use Rattle.ld_names.specs.declared.file.TextId.{TextId};
+ghost use Rattle.ld_colour.specs.Colour.{colour_of as colour_of_word};
+ghost use Rattle.ld_entry.specs.Carrying.{above_of};
+ghost use Rattle.ld_entry.specs.NumberedTexts.{known_texts};
+ghost use Rattle.ld_entry.specs.Outcomes.{all, found_outcomes, is_on_way, line_outcomes, outer_of, own_entry, part_outcomes};
+ghost use Rattle.ld_engine.specs.Gathering.{Extends, Gathers, alone, enter_with};
+
+use crate::carrying::carry_from;
+use crate::seen::{found, is_part, line_behind};
+use ld_bfc::{State, below_of, face, next, start};
+use ld_colour::{colour_of, under_laws};
+use ld_entry::{Entry, Fault, Outer, Source, What, action_law, carry, cut_laws};
+use ld_line::{Kind, Line, read_line};
+use ld_names::TextId;
+use ld_num::{Placement, Point, mirrored};
+use ld_texts::Texts;
+use smallvec::SmallVec;
+use std::alloc::{AllocError, Global};
+
+// Named where entries are moved: the prover looks for the types inside them among those named.
+pub(crate) const NO_POINTS: [Point; 0] = [];
+
+// A reference that is met in a state.
+#[derive(Clone, Copy)]
+struct Reference {
+    state: State,
+    source: Source,
+    colour: u32,
+    placement: Placement,
+}
+
+fn fault(what: What, source: Source) -> Option<Fault>
+    ensures { result ≡ Some (record { what = what; source = source }) }
+{
+    Some(Fault { what, source })
+}
+
+fn drawn(state: State, source: Source, kind: Kind, colour: u32, points: [Point; 4]) -> Entry
+    ensures { result ≡ own_entry state source kind colour points }
+{
+    let (certified, clip, winding) = face(state);
+    Entry::Drawn {
+        kind,
+        certified,
+        clip,
+        winding,
+        colour: colour_of(colour),
+        source,
+        points,
+    }
+}
+
+// Whether the file is in hand.
+fn on_way(way: &[TextId], text: TextId, file: TextId) -> bool
+    ensures { result ≡ list_any (λ on. on.0 == file.0) (way.now ++ text ∷ []) }
+{
+    let mut rest = way;
+    while let Some((on, more)) = rest.split_first() {
+        if on.0 == file.0 {
+            return true;
+        }
+        rest = more;
+    }
+    text.0 == file.0
+}
+
+// What a reference passes down.
+fn passed_down(reference: &Reference) -> Outer
+    ensures passed { above_of result ≡ above_of (outer_of reference.now.state reference.now.source reference.now.colour reference.now.placement) }
+    ensures colour { result.colour ≡ colour_of_word reference.now.colour }
+    ensures source { result.source ≡ reference.now.source }
+{
+    Outer {
+        placement: reference.placement,
+        colour: colour_of(reference.colour),
+        below: below_of(reference.state, mirrored(&reference.placement)),
+        source: reference.source,
+    }
+}
+
+// A part text is an entry of its own where the text that refers to it is none.
+fn push_part(
+    texts: &Texts,
+    outer: &Outer,
+    file: TextId,
+    entries: &mut Vec<Entry>,
+) -> Result<(), AllocError>
+    ensures extends { OnOk result (Extends entries.old.items entries.new.items) }
+    ensures gathers { OnOk result ((way : List TextId) (most word : ℕ) → outer.now.colour ≡ colour_of_word word →
+        Gathers most entries.old.items entries.new.items None
+        (part_outcomes (alone (known_texts texts.now.known) way outer.now.source.text) outer.now.source word file)) }
+{
+    let _: [Point; 0] = NO_POINTS;
+    if !is_part(texts, outer.source.text) && is_part(texts, file) {
+        entries.push(Entry::Part {
+            file,
+            colour: outer.colour,
+            source: outer.source,
+        })?;
+    }
+    Ok(())
+}
+
+// What a reference gives that finds a file.
+#[cycle(expand)]
+fn enter_file(
+    alloc: Global,
+    texts: &Texts,
+    way: &mut SmallVec<TextId, 64>,
+    left: u32,
+    most: u32,
+    reference: &Reference,
+    file: TextId,
+    entries: &mut Vec<Entry>,
+) -> Result<Option<Fault>, AllocError>
+    ensures way { OnOk result (way.new.items ≡ way.old.items) }
+    ensures extends { OnOk result (Extends entries.old.items entries.new.items) }
+    ensures gathers { IfOk result (λ end. Gathers most entries.old.items entries.new.items end
+        (found_outcomes (enter_with left) (alone (known_texts texts.now.known) way.old.items reference.now.source.text) reference.now.state reference.now.source reference.now.colour reference.now.placement (Some file))) }
+{
+    let source = reference.source;
+    if on_way(way.as_slice(), source.text, file) {
+        return Ok(fault(What::Cycle, source));
+    }
+    if left == 0 {
+        return Ok(fault(What::TooDeep, source));
+    }
+    cut_laws();
+    action_law();
+    under_laws();
+    let outer = passed_down(reference);
+    push_part(texts, &outer, file, entries)?;
+    let start = entries.len();
+    if start > most as usize {
+        return Ok(None);
+    }
+    way.push(source.text)?;
+    let end = expand_text(alloc, texts, way, file, left - 1, most, entries)?;
+    way.pop();
+    let refusal = carry_from(&outer, start, entries);
+    Ok(refusal.or(end))
+}
+
+// What a line gives, by the state before it.
+#[cycle(expand)]
+fn expand_line(
+    alloc: Global,
+    texts: &Texts,
+    way: &mut SmallVec<TextId, 64>,
+    left: u32,
+    most: u32,
+    state: State,
+    source: Source,
+    line: Line,
+    entries: &mut Vec<Entry>,
+) -> Result<Option<Fault>, AllocError>
+    ensures way { OnOk result (way.new.items ≡ way.old.items) }
+    ensures extends { OnOk result (Extends entries.old.items entries.new.items) }
+    ensures gathers { IfOk result (λ end. Gathers most entries.old.items entries.new.items end
+        (line_outcomes (enter_with left) (alone (known_texts texts.now.known) way.old.items source.text) state source line)) }
+{
+    match line {
+        Line::Malformed => Ok(fault(What::Malformed, source)),
+        Line::OutOfRange => Ok(fault(What::Range, source)),
+        Line::Draw {
+            kind,
+            colour,
+            points,
+        } => {
+            entries.push(drawn(state, source, kind, colour, points))?;
+            Ok(None)
+        }
+        Line::Ref {
+            colour,
+            placement,
+            name,
+        } => match name {
+            None => Ok(fault(What::Unnamed, source)),
+            Some(name) => match found(texts, source.text, &name) {
+                None => Ok(fault(What::Missing, source)),
+                Some(file) => {
+                    let reference = Reference {
+                        state,
+                        source,
+                        colour,
+                        placement,
+                    };
+                    enter_file(alloc, texts, way, left, most, &reference, file, entries)
+                }
+            },
+        },
+        _ => Ok(None),
+    }
+}
+
+// Appends what a text gives at the end of a way, below nothing, up to its first fault or an entry
+// too many.
+#[cycle(expand)]
+pub(crate) fn expand_text(
+    alloc: Global,
+    texts: &Texts,
+    way: &mut SmallVec<TextId, 64>,
+    text: TextId,
+    left: u32,
+    most: u32,
+    entries: &mut Vec<Entry>,
+) -> Result<Option<Fault>, AllocError>
+    ensures way { OnOk result (way.new.items ≡ way.old.items) }
+    ensures extends { OnOk result (Extends entries.old.items entries.new.items) }
+    ensures gathers { IfOk result (λ end. Gathers most entries.old.items entries.new.items end
+        (all left (alone (known_texts texts.now.known) way.old.items text))) }
+{
+    let mut state = start(is_part(texts, text));
+    let mut before: u32 = 0;
+    while let Some(line) = line_behind(texts, text, before) {
+        if entries.len() > most as usize {
+            return Ok(None);
+        }
+        let line = read_line(alloc, line)?;
+        before += 1;
+        let source = Source { text, line: before };
+        let after = next(state, &line);
+        let end = expand_line(alloc, texts, way, left, most, state, source, line, entries)?;
+        if let Some(fault) = end {
+            return Ok(Some(fault));
+        }
+        state = after;
+    }
+    Ok(None)
+}

@@ -1,0 +1,19 @@
+//! Questions about the texts of a model: files are learnt by what the model reaches, and answered by
+//! recursive expansion.
+#![tactic(auto)]
+
+mod answering;
+mod asking;
+mod carrying;
+mod expand;
+mod fetching;
+mod find;
+mod going;
+mod learning;
+mod limits;
+mod seen;
+mod workspace;
+
+pub use asking::{Answer, AnswerError};
+pub use limits::{Limits, OpenError};
+pub use workspace::Workspace;
