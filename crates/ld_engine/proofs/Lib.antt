@@ -5,3 +5,4 @@ pub mod Expanded
 pub mod Numbered
 pub mod Learned
 pub mod Roots
+pub mod Loaded

@@ -6,5 +6,6 @@ pub mod Going
 pub mod Keeping
 pub mod Learning
 pub mod Limits
+pub mod Loading
 pub mod Stopping
 pub mod Workspace

@@ -11,9 +11,11 @@ mod find;
 mod going;
 mod learning;
 mod limits;
+mod loading;
 mod seen;
 mod workspace;
 
 pub use asking::{Answer, AnswerError};
 pub use limits::{Limits, OpenError};
+pub use loading::LoadError;
 pub use workspace::Workspace;
