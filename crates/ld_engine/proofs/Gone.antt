@@ -115,7 +115,7 @@ pub left-end : (known : Known) (passed : Passed) → slice_get passed.texts pass
 left-end known passed is =
     ap (λ o. elim o [ None ↦ Reaches passed.texts | Some id ↦ going_on (texts_reach (length known - suc passed.place) known (suc passed.place)) (file_rest id known passed) ]) is
 
-at-behind : (xs ys : List ℕ) (n x : ℕ) → slice_get xs n ≡ Some x → slice_get (xs ++ ys) n ≡ Some x
+pub at-behind : (xs ys : List ℕ) (n x : ℕ) → slice_get xs n ≡ Some x → slice_get (xs ++ ys) n ≡ Some x
 at-behind [] ys n x is = cc
 at-behind (y ∷ xs) ys zero x is = is
 at-behind (y ∷ xs) ys (suc n) x is = at-behind xs ys n x is

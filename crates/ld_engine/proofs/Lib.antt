@@ -6,3 +6,4 @@ pub mod Numbered
 pub mod Learned
 pub mod Roots
 pub mod Loaded
+pub mod Settled

@@ -4,6 +4,7 @@ pub mod Found
 pub mod Gathering
 pub mod Going
 pub mod Keeping
+pub mod Laws
 pub mod Learning
 pub mod Limits
 pub mod Loading

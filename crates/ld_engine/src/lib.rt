@@ -9,6 +9,7 @@ mod expand;
 mod fetching;
 mod find;
 mod going;
+mod laws;
 mod learning;
 mod limits;
 mod loading;
@@ -16,6 +17,7 @@ mod seen;
 mod workspace;
 
 pub use asking::{Answer, AnswerError};
+pub use laws::root_law;
 pub use limits::{Limits, OpenError};
 pub use loading::LoadError;
 pub use workspace::Workspace;
