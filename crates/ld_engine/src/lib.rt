@@ -11,9 +11,15 @@ mod find;
 mod going;
 mod laws;
 mod learning;
+#[cfg(test)]
+mod limit_tests;
 mod limits;
+#[cfg(test)]
+mod load_tests;
 mod loading;
 mod seen;
+#[cfg(test)]
+mod tests;
 mod workspace;
 
 pub use asking::{Answer, AnswerError};
