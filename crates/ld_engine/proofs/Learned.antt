@@ -103,13 +103,13 @@ module _ (limits : Limits) (known new : Known) (file : FileId) (few : length kno
       by root wants (Err (stop.Full over)) (same, passed) =
           let alone = sym (weight-alone limits.texts limits.total_weight known text few) ∙ passed in
           stopped-told limits files root file known wants (Full over) few (text-fetched limits known file (bytes_on files file) text told.0 told.1 ∙ ap (λ o. unless_over o text) alone) ∙ ap (λ k. stopped k (Full over)) (sym same)
-      by root wants (Err stop.Memory) keeps = tt
-      by root wants (Err stop.ReadFault) keeps = tt
+      by root wants (Err stop.Memory) keeps = ap (learning limits files root) (sym keeps)
+      by root wants (Err stop.ReadFault) keeps = absurd keeps
       by root wants (Err (stop.TooBig big)) keeps = absurd keeps
 
   -- a fetch failed
   pub err-told : (files : Option Files) (failed : FetchStop) → IfSome files (λ files. TextTold file (bytes_on files file) limits.file_bytes (Err failed)) → IfSome files (λ files. (root : FileId) → wanted known root ≡ Some file → Tells limits files root known known (Err (stopped_at file failed)))
   err-told None failed told = tt
-  err-told (Some files) fetch.ReadFault told = λ root wants. tt
+  err-told (Some files) fetch.ReadFault told = λ root wants. refl
   err-told (Some files) fetch.TooBig told = λ root wants. stopped-told limits files root file known wants (TooBig file) few (big-fetched limits known file (bytes_on files file) told)
-  err-told (Some files) fetch.Memory told = λ root wants. tt
+  err-told (Some files) fetch.Memory told = λ root wants. refl

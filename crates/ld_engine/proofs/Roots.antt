@@ -16,7 +16,13 @@ use Rattle.ld_engine.specs.Learning.{AreWanted, LearnsFor, Full as PassedLimit, 
 use Rattle.ld_texts.specs.declared.change.Over.TheVariants.{Files as TooMany}
 use Rattle.ld_engine.specs.declared.learning.LearnStop.{LearnStop}
 use Rattle.ld_engine.specs.declared.learning.LearnStop.TheVariants.{ReadFault, TooBig, Full, Memory}
+use Rattle.ld_engine.specs.Asking.{AnswersTold}
+use Rattle.ld_engine.specs.Stopping.{AnswersKnown}
+use Rattle.ld_engine.specs.declared.asking.Answer.{Answer}
+use Rattle.ld_engine.specs.declared.asking.AnswerError.{AnswerError}
+use Rattle.ld_engine.specs.declared.asking.AnswerError.TheVariants as error
 use Rattle.ld_engine.specs.declared.limits.Limits.{Limits}
+use Rattle.ld_colour.specs.declared.colour.Colour.{Colour}
 use Rattle.ld_engine.proofs.Gone.{further}
 use Rattle.ld_engine.proofs.Reached.{id-behind, id-within}
 
@@ -75,10 +81,10 @@ told-more limits root old mid new (Some files) id before step = before ∙ step
 
 pub told-stop : (limits : Limits) (root : FileId) (old mid new : Known) (files : Option Files) (stop : LearnStop) → IfSome files (λ files. learning limits files root old ≡ learning limits files root mid) → IfSome files (λ files. Tells limits files root mid new (Err stop)) → IfSome files (λ files. ToldFor limits files root old new (Err stop))
 told-stop limits root old mid new None stop before step = tt
-told-stop limits root old mid new (Some files) ReadFault before step = tt
+told-stop limits root old mid new (Some files) ReadFault before step = before ∙ step
 told-stop limits root old mid new (Some files) (TooBig file) before step = before ∙ step
 told-stop limits root old mid new (Some files) (Full over) before step = before ∙ step
-told-stop limits root old mid new (Some files) Memory before step = tt
+told-stop limits root old mid new (Some files) Memory before step = before ∙ step
 
 learnt-at : (left : ℕ) (limits : Limits) (files : Files) (root : FileId) (known : Known) → wanted known root ≡ None → learn left limits files root known ≡ learnt known
 learnt-at zero limits files root known none = ap (λ w. elim w [ None ↦ learnt known | Some file ↦ stopped known (PassedLimit (TooMany (length known))) ]) none
@@ -88,6 +94,18 @@ pub told-end : (limits : Limits) (root : FileId) (old known : Known) (files : Op
 unfolding learning
 told-end limits root old known None none before = tt
 told-end limits root old known (Some files) none before = before ∙ learnt-at (limits.texts - length known) limits files root known none
+
+-- all is learnt, and then the answer is made
+pub told-answer : (limits others : Limits) (root : FileId) (colour : Colour) (old known : Known) (files : Option Files) (result : Result Answer AnswerError) → wanted known root ≡ None → AnswersKnown others root colour known result → IfSome files (λ files. learning limits files root old ≡ learnt known) → IfSome files (λ files. AnswersTold limits files root old known result)
+unfolding learning
+told-answer limits others root colour old known None result none answers told = tt
+told-answer limits others root colour old known (Some files) (Ok answer) none answers told = told
+told-answer limits others root colour old known (Some files) (Err (error.Fault fault)) none answers told = told
+told-answer limits others root colour old known (Some files) (Err error.NoRoot) none answers told = told
+told-answer limits others root colour old known (Some files) (Err error.ReadFault) none answers told = absurd answers
+told-answer limits others root colour old known (Some files) (Err (error.TooBig file)) none answers told = absurd answers
+told-answer limits others root colour old known (Some files) (Err (error.Full over)) none answers told = absurd answers
+told-answer limits others root colour old known (Some files) (Err error.Memory) none answers told = told ∙ sym (learnt-at (limits.texts - length known) limits files root known none)
 
 -- ---- Where the going stands.
 

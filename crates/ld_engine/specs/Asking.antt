@@ -37,12 +37,13 @@ Answers limits root colour known (Err (TooBig file)) = wanted known root ≡ Som
 Answers limits root colour known (Err (Full over)) = IsSome (wanted known root) × IsLimit limits known over
 Answers limits root colour known (Err Memory) = ⊤
 
--- by the files of a shelf, what learning for the root comes to, from what was known
+-- By the files of a shelf, what learning for the root comes to, from what was known; where a read failed or memory was
+-- lacking, it still comes to that from what is known now.
 abbrev pub AnswersTold : Limits → Files → FileId → Known → Known → Result Answer AnswerError → Type 0
 AnswersTold limits files root old new (Ok answer) = learning limits files root old ≡ learnt new
 AnswersTold limits files root old new (Err (Fault fault)) = learning limits files root old ≡ learnt new
 AnswersTold limits files root old new (Err NoRoot) = learning limits files root old ≡ learnt new
 AnswersTold limits files root old new (Err (TooBig file)) = learning limits files root old ≡ stopped new (BigFile file)
 AnswersTold limits files root old new (Err (Full over)) = learning limits files root old ≡ stopped new (Passed over)
-AnswersTold limits files root old new (Err ReadFault) = ⊤
-AnswersTold limits files root old new (Err Memory) = ⊤
+AnswersTold limits files root old new (Err ReadFault) = learning limits files root old ≡ learning limits files root new
+AnswersTold limits files root old new (Err Memory) = learning limits files root old ≡ learning limits files root new

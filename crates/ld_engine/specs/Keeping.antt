@@ -64,8 +64,8 @@ abbrev pub Tells : Limits → Files → FileId → Known → Known → Result Te
 Tells limits files root old new (Ok id) = learning limits files root old ≡ learning limits files root new
 Tells limits files root old new (Err (TooBig file)) = learning limits files root old ≡ stopped new (BigFile file)
 Tells limits files root old new (Err (Full over)) = learning limits files root old ≡ stopped new (Passed over)
-Tells limits files root old new (Err ReadFault) = ⊤
-Tells limits files root old new (Err Memory) = ⊤
+Tells limits files root old new (Err ReadFault) = learning limits files root old ≡ learning limits files root new
+Tells limits files root old new (Err Memory) = learning limits files root old ≡ learning limits files root new
 
 -- a file is still wanted, and it is the one at which learning stopped
 abbrev pub StopsFor : Limits → FileId → Known → LearnStop → Type 0
@@ -84,5 +84,5 @@ abbrev pub ToldFor : Limits → Files → FileId → Known → Known → Result 
 ToldFor limits files root old new (Ok id) = learning limits files root old ≡ learnt new
 ToldFor limits files root old new (Err (TooBig file)) = learning limits files root old ≡ stopped new (BigFile file)
 ToldFor limits files root old new (Err (Full over)) = learning limits files root old ≡ stopped new (Passed over)
-ToldFor limits files root old new (Err ReadFault) = ⊤
-ToldFor limits files root old new (Err Memory) = ⊤
+ToldFor limits files root old new (Err ReadFault) = learning limits files root old ≡ learning limits files root new
+ToldFor limits files root old new (Err Memory) = learning limits files root old ≡ learning limits files root new

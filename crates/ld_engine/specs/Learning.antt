@@ -1,4 +1,4 @@
--- Which files are learnt for a root, and what stops it: the order in which references reach files (File Format 1.0.2,
+-- Which files are learnt for a root, and what stops it: files that references reach (File Format 1.0.2,
 -- "Line Type 1"). The limits are this project's own.
 use Rattle.std.specs.Prelude.{◌≡◌, ◌-◌, ◌++◌, ℕ, zero, suc, Bool, true, List, [], ◌∷◌, length, Option, Some, None, Result, Ok, Err, if◌then◌else◌, nat_lt, option_map, ⊤}
 use Rattle.std.specs.List.{list_all}

@@ -1,10 +1,10 @@
 //! Worked models answered over files in memory, how files are learnt for them, and limits.
 use crate::expand::NO_POINTS;
 use crate::{Answer, AnswerError, Limits, Workspace};
-use ld_colour::Colour;
+use ld_colour::{Colour, colour_of};
 use ld_entry::{Entry, Fault, Source};
 use ld_io::{MemShelf, Place};
-use ld_line::Kind;
+use ld_line::{Kind, read_colour};
 use ld_names::{FileId, Folder, TextId, normal};
 use ld_num::{Point, print_dec};
 use ld_texts::Texts;
@@ -195,14 +195,76 @@ pub(crate) fn shown(
     ))
 }
 
-const COLOURS: &str = "m.ldr|1 4 0 0 0 I a.ldr|1 1 0 0 0 I b.ldr||a.ldr|1 24 0 0 0 I b.ldr\
-                       ||b.ldr|2 16 0 0 0 1 0 0|2 24 0 0 0 1 0 0";
-
-const CERTIFICATION: &str = "p/pr.dat|0 BFC CERTIFY CCW|3 16 0 0 0 1 0 0 0 1 0\
-                             ||parts/s.dat|1 16 0 0 0 I pr.dat||m1.ldr|1 16 0 0 0 I pr.dat\
-                             ||m2.ldr|1 16 0 0 0 I s.dat||m3.ldr|0 BFC NOCERTIFY|1 16 0 0 0 I pr.dat";
-
-const CYCLE: &str = "a.ldr|1 16 0 0 0 I b.ldr||b.ldr|3 16 0 0 0 1 0 0 0 1 0|1 16 0 0 0 I a.ldr";
+// A worked example in each line: its name, files, root, colour, and what the root shows. Each block
+// of a model is a file of its own.
+const WORKED: &str = "\
+empty => m.ldr => m.ldr => 16 => \n\
+rounding => m.ldr|3 16 0 0 0 1.0000005 0 0 0 -.5 0 => m.ldr => 16 => \
+Tri Main nocert clip Ccw 0,0,0 1.000001,0,0 0,-0.5,0 m.ldr:1\n\
+rounding-at-each-reference => m.ldr|1 16 0 0 0 3 0 0 0 1 0 0 0 1 a.ldr||a.ldr|\
+1 16 0 0 0 0.333333 0 0 0 1 0 0 0 1 b.ldr||b.ldr|2 24 1.5 0 0 0 0 0 => m.ldr => 16 => \
+Line2 Edge nocert clip Ccw 1.5,0,0 0,0,0 b.ldr:1\n\
+matrix-of-zeros => m.ldr|1 4 1 2 3 0 0 0 0 0 0 0 0 0 b.ldr||b.ldr|3 16 5 0 0 0 5 0 0 0 5 => \
+m.ldr => 16 => Tri Code(4) nocert clip Ccw 1,2,3 1,2,3 1,2,3 b.ldr:1\n\
+colours => m.ldr|1 4 0 0 0 I a.ldr|1 1 0 0 0 I b.ldr||a.ldr|1 24 0 0 0 I b.ldr||b.ldr|\
+2 16 0 0 0 1 0 0|2 24 0 0 0 1 0 0 => m.ldr => 16 => \
+Line2 EdgeOf(4) nocert clip Ccw 0,0,0 1,0,0 b.ldr:1|\
+Line2 EdgeOf(4) nocert clip Ccw 0,0,0 1,0,0 b.ldr:2|\
+Line2 Code(1) nocert clip Ccw 0,0,0 1,0,0 b.ldr:1|\
+Line2 EdgeOf(1) nocert clip Ccw 0,0,0 1,0,0 b.ldr:2\n\
+colours => m.ldr|1 4 0 0 0 I a.ldr|1 1 0 0 0 I b.ldr||a.ldr|1 24 0 0 0 I b.ldr||b.ldr|\
+2 16 0 0 0 1 0 0|2 24 0 0 0 1 0 0 => b.ldr => 7 => \
+Line2 Code(7) nocert clip Ccw 0,0,0 1,0,0 b.ldr:1|\
+Line2 EdgeOf(7) nocert clip Ccw 0,0,0 1,0,0 b.ldr:2\n\
+invertnext-and-mirror => m.ldr|0 BFC CERTIFY CCW|0 BFC INVERTNEXT|0 note|\
+1 16 0 0 0 -1 0 0 0 1 0 0 0 1 t.ldr|0 BFC INVERTNEXT|3 16 0 0 0 1 0 0 0 1 0|\
+1 16 0 0 0 I t.ldr||t.ldr|0 BFC CERTIFY CCW|3 16 0 0 0 1 0 0 0 1 0 => m.ldr => 16 => \
+Tri Main cert clip Ccw 0,0,0 -1,0,0 0,1,0 t.ldr:2|\
+Tri Main cert clip Ccw 0,0,0 1,0,0 0,1,0 m.ldr:6|\
+Tri Main cert clip Ccw 0,0,0 1,0,0 0,1,0 t.ldr:2\n\
+certification => p/pr.dat|0 BFC CERTIFY CCW|3 16 0 0 0 1 0 0 0 1 0||parts/s.dat|\
+1 16 0 0 0 I pr.dat||m1.ldr|1 16 0 0 0 I pr.dat||m2.ldr|1 16 0 0 0 I s.dat||m3.ldr|\
+0 BFC NOCERTIFY|1 16 0 0 0 I pr.dat => m1.ldr => 16 => Part Main p/pr.dat m1.ldr:1|\
+Tri Main cert clip Ccw 0,0,0 1,0,0 0,1,0 p/pr.dat:2\n\
+certification => p/pr.dat|0 BFC CERTIFY CCW|3 16 0 0 0 1 0 0 0 1 0||parts/s.dat|\
+1 16 0 0 0 I pr.dat||m1.ldr|1 16 0 0 0 I pr.dat||m2.ldr|1 16 0 0 0 I s.dat||m3.ldr|\
+0 BFC NOCERTIFY|1 16 0 0 0 I pr.dat => m2.ldr => 4 => Part Code(4) parts/s.dat m2.ldr:1|\
+Tri Code(4) nocert clip Ccw 0,0,0 1,0,0 0,1,0 p/pr.dat:2\n\
+certification => p/pr.dat|0 BFC CERTIFY CCW|3 16 0 0 0 1 0 0 0 1 0||parts/s.dat|\
+1 16 0 0 0 I pr.dat||m1.ldr|1 16 0 0 0 I pr.dat||m2.ldr|1 16 0 0 0 I s.dat||m3.ldr|\
+0 BFC NOCERTIFY|1 16 0 0 0 I pr.dat => m3.ldr => 16 => Part Main p/pr.dat m3.ldr:2|\
+Tri Main nocert clip Ccw 0,0,0 1,0,0 0,1,0 p/pr.dat:2\n\
+certification => p/pr.dat|0 BFC CERTIFY CCW|3 16 0 0 0 1 0 0 0 1 0||parts/s.dat|\
+1 16 0 0 0 I pr.dat||m1.ldr|1 16 0 0 0 I pr.dat||m2.ldr|1 16 0 0 0 I s.dat||m3.ldr|\
+0 BFC NOCERTIFY|1 16 0 0 0 I pr.dat => parts/S.DAT => 16 => \
+Tri Main nocert clip Ccw 0,0,0 1,0,0 0,1,0 p/pr.dat:2\n\
+cycle => a.ldr|1 16 0 0 0 I b.ldr||b.ldr|3 16 0 0 0 1 0 0 0 1 0|1 16 0 0 0 I a.ldr => \
+a.ldr => 16 => Cycle b.ldr:2\n\
+cycle => a.ldr|1 16 0 0 0 I b.ldr||b.ldr|3 16 0 0 0 1 0 0 0 1 0|1 16 0 0 0 I a.ldr => \
+b.ldr => 16 => Cycle a.ldr:1\n\
+earlier-fault-from-outside => m.ldr|1 16 1000000 0 0 I s.ldr||s.ldr|3 16 0 0 0 1 0 0 0 1 0|\
+1 16 0 0 0 I gone.dat => m.ldr => 16 => Range m.ldr:1\n\
+earlier-fault-from-outside => m.ldr|1 16 0 0 0 I s.ldr||s.ldr|3 16 0 0 0 1 0 0 0 1 0|\
+1 16 0 0 0 I gone.dat => m.ldr => 16 => Missing s.ldr:2\n\
+files-appear-and-go => m.ldr|1 16 0 0 0 I X.DAT||p/x.dat|2 24 0 0 0 2 0 0||parts/x.dat|\
+2 24 0 0 0 1 0 0 => m.ldr => 16 => Part Main parts/x.dat m.ldr:1|\
+Line2 Edge nocert clip Ccw 0,0,0 1,0,0 parts/x.dat:1\n\
+files-appear-and-go => m.ldr|1 16 0 0 0 I X.DAT||p/x.dat|2 24 0 0 0 2 0 0 => m.ldr => 16 => \
+Part Main p/x.dat m.ldr:1|Line2 Edge nocert clip Ccw 0,0,0 2,0,0 p/x.dat:1\n\
+files-appear-and-go => m.ldr|1 16 0 0 0 I X.DAT => m.ldr => 16 => Missing m.ldr:1\n\
+names => m.ldr|1 16 0 0 0 I C:\\x.dat => m.ldr => 16 => Unnamed m.ldr:1\n\
+mpd => m.ldr|\u{feff}0 outside\r|0 FILE My Car.ldr\r|2 24 0 0 0 1 0 0\r|0 NOFILE\r|3 bad\r|\
+0 FILE A.ldr\r|0 FILE a.ldr\r|2 24 0 0 0 9 9 9 => m.ldr => 16 => \
+Line2 Edge nocert clip Ccw 0,0,0 1,0,0 m.ldr:1\n\
+direct-colours => m.ldr|2 16 0 0 0 1 0 0|2 24 0 0 0 1 0 0 more words => m.ldr => \
+0x2ff8000 => Line2 Direct(16744448) nocert clip Ccw 0,0,0 1,0,0 m.ldr:1|\
+Line2 Direct(3355443) nocert clip Ccw 0,0,0 1,0,0 m.ldr:2\n\
+direct-colours => m.ldr|2 16 0 0 0 1 0 0|6 junk => m.ldr => 16 => Malformed m.ldr:2\n\
+clip-and-winding => m.ldr|0 BFC CERTIFY CW|0 BFC CERTIFY CCW|3 16 0 0 0 1 0 0 0 1 0|\
+0 BFC CCW NOCLIP|0 BFC NOCLIP|1 16 0 0 0 I t.ldr||t.ldr|0 BFC CERTIFY CCW|\
+3 16 0 0 0 1 0 0 0 1 0 => m.ldr => 16 => Tri Main cert clip Cw 0,0,0 1,0,0 0,1,0 m.ldr:3|\
+Tri Main cert noclip Ccw 0,0,0 1,0,0 0,1,0 t.ldr:2\n\
+root in its own folder => parts/m.ldr => m.ldr => 16 => NoRoot";
 
 const ORDINARY: &str = "parts/3001.dat|0 Brick  2 x  4|0 Name: 3001.dat|0 Author: A Builder|\
                         0 !LDRAW_ORG Unofficial_Part|0 !LICENSE Example licence|0 BFC CERTIFY CCW|\
@@ -220,175 +282,27 @@ const ORDINARY: &str = "parts/3001.dat|0 Brick  2 x  4|0 Name: 3001.dat|0 Author
                         ||right.ldr|1 16 0 0 0 I 3001.dat|1 16 0 0 80 I 3001.dat|\
                         1 16 0 0 160 I 3001.dat|1 4 0 0 240 I 3001.dat|1 4 0 0 320 I 3001.dat";
 
-// The worked examples, in which each block of a model is a file of its own. A root shows the same
-// when it is asked for again.
 #[test]
 fn worked_models(rt: HostRuntime) -> Result<(), Fail> {
-    let rows: [(&str, &str, Colour, &str); 24] = [
-        // empty
-        ("m.ldr", "m.ldr", Colour::Main, ""),
-        // rounding
-        (
-            "m.ldr|3 16 0 0 0 1.0000005 0 0 0 -.5 0",
-            "m.ldr",
-            Colour::Main,
-            "Tri Main nocert clip Ccw 0,0,0 1.000001,0,0 0,-0.5,0 m.ldr:1",
-        ),
-        // rounding-at-each-reference
-        (
-            "m.ldr|1 16 0 0 0 3 0 0 0 1 0 0 0 1 a.ldr\
-             ||a.ldr|1 16 0 0 0 0.333333 0 0 0 1 0 0 0 1 b.ldr||b.ldr|2 24 1.5 0 0 0 0 0",
-            "m.ldr",
-            Colour::Main,
-            "Line2 Edge nocert clip Ccw 1.5,0,0 0,0,0 b.ldr:1",
-        ),
-        // matrix-of-zeros
-        (
-            "m.ldr|1 4 1 2 3 0 0 0 0 0 0 0 0 0 b.ldr||b.ldr|3 16 5 0 0 0 5 0 0 0 5",
-            "m.ldr",
-            Colour::Main,
-            "Tri Code(4) nocert clip Ccw 1,2,3 1,2,3 1,2,3 b.ldr:1",
-        ),
-        // colours
-        (
-            COLOURS,
-            "m.ldr",
-            Colour::Main,
-            "Line2 EdgeOf(4) nocert clip Ccw 0,0,0 1,0,0 b.ldr:1|\
-             Line2 EdgeOf(4) nocert clip Ccw 0,0,0 1,0,0 b.ldr:2|\
-             Line2 Code(1) nocert clip Ccw 0,0,0 1,0,0 b.ldr:1|\
-             Line2 EdgeOf(1) nocert clip Ccw 0,0,0 1,0,0 b.ldr:2",
-        ),
-        (
-            COLOURS,
-            "b.ldr",
-            Colour::Code(7),
-            "Line2 Code(7) nocert clip Ccw 0,0,0 1,0,0 b.ldr:1|\
-             Line2 EdgeOf(7) nocert clip Ccw 0,0,0 1,0,0 b.ldr:2",
-        ),
-        // invertnext-and-mirror
-        (
-            "m.ldr|0 BFC CERTIFY CCW|0 BFC INVERTNEXT|0 note|\
-             1 16 0 0 0 -1 0 0 0 1 0 0 0 1 t.ldr|0 BFC INVERTNEXT|3 16 0 0 0 1 0 0 0 1 0|\
-             1 16 0 0 0 I t.ldr||t.ldr|0 BFC CERTIFY CCW|3 16 0 0 0 1 0 0 0 1 0",
-            "m.ldr",
-            Colour::Main,
-            "Tri Main cert clip Ccw 0,0,0 -1,0,0 0,1,0 t.ldr:2|\
-             Tri Main cert clip Ccw 0,0,0 1,0,0 0,1,0 m.ldr:6|\
-             Tri Main cert clip Ccw 0,0,0 1,0,0 0,1,0 t.ldr:2",
-        ),
-        // certification
-        (
-            CERTIFICATION,
-            "m1.ldr",
-            Colour::Main,
-            "Part Main p/pr.dat m1.ldr:1|Tri Main cert clip Ccw 0,0,0 1,0,0 0,1,0 p/pr.dat:2",
-        ),
-        (
-            CERTIFICATION,
-            "m2.ldr",
-            Colour::Code(4),
-            "Part Code(4) parts/s.dat m2.ldr:1|\
-             Tri Code(4) nocert clip Ccw 0,0,0 1,0,0 0,1,0 p/pr.dat:2",
-        ),
-        (
-            CERTIFICATION,
-            "m3.ldr",
-            Colour::Main,
-            "Part Main p/pr.dat m3.ldr:2|Tri Main nocert clip Ccw 0,0,0 1,0,0 0,1,0 p/pr.dat:2",
-        ),
-        (
-            CERTIFICATION,
-            "parts/S.DAT",
-            Colour::Main,
-            "Tri Main nocert clip Ccw 0,0,0 1,0,0 0,1,0 p/pr.dat:2",
-        ),
-        // cycle
-        (CYCLE, "a.ldr", Colour::Main, "Cycle b.ldr:2"),
-        (CYCLE, "b.ldr", Colour::Main, "Cycle a.ldr:1"),
-        // earlier-fault-from-outside
-        (
-            "m.ldr|1 16 1000000 0 0 I s.ldr||s.ldr|3 16 0 0 0 1 0 0 0 1 0|1 16 0 0 0 I gone.dat",
-            "m.ldr",
-            Colour::Main,
-            "Range m.ldr:1",
-        ),
-        (
-            "m.ldr|1 16 0 0 0 I s.ldr||s.ldr|3 16 0 0 0 1 0 0 0 1 0|1 16 0 0 0 I gone.dat",
-            "m.ldr",
-            Colour::Main,
-            "Missing s.ldr:2",
-        ),
-        // files-appear-and-go, with the files there or gone from the beginning
-        (
-            "m.ldr|1 16 0 0 0 I X.DAT||p/x.dat|2 24 0 0 0 2 0 0||parts/x.dat|2 24 0 0 0 1 0 0",
-            "m.ldr",
-            Colour::Main,
-            "Part Main parts/x.dat m.ldr:1|\
-             Line2 Edge nocert clip Ccw 0,0,0 1,0,0 parts/x.dat:1",
-        ),
-        (
-            "m.ldr|1 16 0 0 0 I X.DAT||p/x.dat|2 24 0 0 0 2 0 0",
-            "m.ldr",
-            Colour::Main,
-            "Part Main p/x.dat m.ldr:1|Line2 Edge nocert clip Ccw 0,0,0 2,0,0 p/x.dat:1",
-        ),
-        (
-            "m.ldr|1 16 0 0 0 I X.DAT",
-            "m.ldr",
-            Colour::Main,
-            "Missing m.ldr:1",
-        ),
-        // names
-        (
-            "m.ldr|1 16 0 0 0 I C:\\x.dat",
-            "m.ldr",
-            Colour::Main,
-            "Unnamed m.ldr:1",
-        ),
-        // mpd: the first block is the text of a file that is learnt, under the name that was asked for
-        (
-            "m.ldr|\u{feff}0 outside\r|0 FILE My Car.ldr\r|2 24 0 0 0 1 0 0\r|0 NOFILE\r|3 bad\r|\
-             0 FILE A.ldr\r|0 FILE a.ldr\r|2 24 0 0 0 9 9 9",
-            "m.ldr",
-            Colour::Main,
-            "Line2 Edge nocert clip Ccw 0,0,0 1,0,0 m.ldr:1",
-        ),
-        // direct-colours
-        (
-            "m.ldr|2 16 0 0 0 1 0 0|2 24 0 0 0 1 0 0 more words",
-            "m.ldr",
-            Colour::Direct(0xFF8000),
-            "Line2 Direct(16744448) nocert clip Ccw 0,0,0 1,0,0 m.ldr:1|\
-             Line2 Direct(3355443) nocert clip Ccw 0,0,0 1,0,0 m.ldr:2",
-        ),
-        (
-            "m.ldr|2 16 0 0 0 1 0 0|6 junk",
-            "m.ldr",
-            Colour::Main,
-            "Malformed m.ldr:2",
-        ),
-        // clip-and-winding
-        (
-            "m.ldr|0 BFC CERTIFY CW|0 BFC CERTIFY CCW|3 16 0 0 0 1 0 0 0 1 0|0 BFC CCW NOCLIP|\
-             0 BFC NOCLIP|1 16 0 0 0 I t.ldr||t.ldr|0 BFC CERTIFY CCW|3 16 0 0 0 1 0 0 0 1 0",
-            "m.ldr",
-            Colour::Main,
-            "Tri Main cert clip Cw 0,0,0 1,0,0 0,1,0 m.ldr:3|\
-             Tri Main cert noclip Ccw 0,0,0 1,0,0 0,1,0 t.ldr:2",
-        ),
-        // A root is looked for in its own folder alone.
-        ("parts/m.ldr", "m.ldr", Colour::Main, "NoRoot"),
-    ];
     let alloc = rt.alloc();
-    for (files, root, colour, wanted) in rows {
+    for row in WORKED.split('\n') {
+        let mut fields = row.split(" => ");
+        let (Some(name), Some(files), Some(root)) = (fields.next(), fields.next(), fields.next())
+        else {
+            return Err("a row without a root".into());
+        };
+        let (Some(colour), Some(wanted)) = (fields.next(), fields.next()) else {
+            return Err("a row without an answer".into());
+        };
+        let Some(colour) = read_colour(colour.as_bytes()) else {
+            return Err("a row without a colour".into());
+        };
         let mut shelf = shelf_of(alloc, files, 0)?;
         let mut workspace = Workspace::open(alloc, LIMITS)?;
-        for _ in 0..2 {
-            let (answer, _) = shown(alloc, &mut workspace, &mut shelf, root, colour)?;
-            assert_eq!(rt; answer.as_str(), wanted);
-        }
+        let (answer, _) = shown(alloc, &mut workspace, &mut shelf, root, colour_of(colour))?;
+        assert_eq!(rt; answer.as_str(), wanted, "{name}");
     }
+    assert_eq!(rt; WORKED.split('\n').count(), 24);
     Ok(())
 }
 
@@ -399,65 +313,64 @@ const REACHED: &str = "m.ldr|6 junk|1 16 0 0 0 I a.ldr|1 16 0 0 0 I b.dat|1 16 0
                        1 16 0 0 0 I c.dat||parts/b.dat|1 16 0 0 0 I d.dat|1 16 0 0 0 I c.dat|\
                        0 NOFILE|1 16 0 0 0 I e.dat||p/c.dat|1 16 0 0 0 I b.dat";
 
+// What roots show one after another, which files are then known, and how often the shelf was asked.
+fn history(alloc: Global, files: &str, failing: u64, roots: &str) -> Result<String, Fail> {
+    let mut shelf = shelf_of(alloc, files, failing)?;
+    let mut workspace = Workspace::open(alloc, LIMITS)?;
+    let mut text = String::new(alloc);
+    for root in roots.split(' ') {
+        let (answer, known) = shown(alloc, &mut workspace, &mut shelf, root, Colour::Main)?;
+        let fetches = shelf.fetches();
+        text.push_str(format!(in alloc; "{answer} [{known}] {fetches}\n")?.as_str())?;
+    }
+    Ok(text)
+}
+
+const LEARNT: &str =
+    "m.ldr a.ldr b.dat- parts/b.dat c.dat- parts/c.dat- p/c.dat parts/d.dat- p/d.dat-";
+
 // Each file is fetched once, when it is reached; each fetch fails in turn and is then tried again.
 #[test]
 fn files_are_learnt_in_order(rt: HostRuntime) -> Result<(), Fail> {
     let alloc = rt.alloc();
-    let all = "m.ldr a.ldr b.dat- parts/b.dat c.dat- parts/c.dat- p/c.dat parts/d.dat- p/d.dat-";
-    for (before, failing) in (1..10).enumerate() {
-        let mut shelf = shelf_of(alloc, REACHED, failing)?;
-        let mut workspace = Workspace::open(alloc, LIMITS)?;
-        let (answer, known) = shown(alloc, &mut workspace, &mut shelf, "m.ldr", Colour::Main)?;
-        assert_eq!(rt; answer.as_str(), "ReadFault");
-        assert!(rt; all.starts_with(known.as_str()));
-        assert_eq!(rt; workspace.texts().known() as usize, before);
-        assert_eq!(rt; shelf.fetches(), failing);
-        for _ in 0..2 {
-            let (answer, known) = shown(alloc, &mut workspace, &mut shelf, "m.ldr", Colour::Main)?;
-            assert_eq!(rt; answer.as_str(), "Malformed m.ldr:1");
-            assert_eq!(rt; known.as_str(), all);
-            assert_eq!(rt; shelf.fetches(), 10);
+    let mut before = String::new(alloc);
+    let mut failing = 1;
+    for file in LEARNT.split(' ') {
+        let again = format!(in alloc; "Malformed m.ldr:1 [{LEARNT}] 10\n")?;
+        let wanted = format!(in alloc; "ReadFault [{before}] {failing}\n{again}{again}")?;
+        let got = history(alloc, REACHED, failing, "m.ldr m.ldr m.ldr")?;
+        assert_eq!(rt; got.as_str(), wanted.as_str());
+        if !before.is_empty() {
+            before.push_str(" ")?;
         }
+        before.push_str(file)?;
+        failing = failing.saturating_add(1);
     }
-    // Another root learns what is new to it alone.
-    let mut shelf = shelf_of(alloc, REACHED, 0)?;
-    let mut workspace = Workspace::open(alloc, LIMITS)?;
-    for (root, wanted, all, fetches) in [
-        (
-            "p/c.dat",
-            "Missing parts/b.dat:1",
-            "p/c.dat parts/b.dat parts/d.dat- p/d.dat- parts/c.dat-",
-            5,
-        ),
-        (
-            "a.ldr",
-            "Unnamed a.ldr:1",
-            "p/c.dat parts/b.dat parts/d.dat- p/d.dat- parts/c.dat- a.ldr c.dat-",
-            7,
-        ),
-    ] {
-        let (answer, known) = shown(alloc, &mut workspace, &mut shelf, root, Colour::Main)?;
-        assert_eq!(rt; answer.as_str(), wanted);
-        assert_eq!(rt; known.as_str(), all);
-        assert_eq!(rt; shelf.fetches(), fetches);
-    }
+    Ok(())
+}
+
+#[test]
+fn roots_share_files(rt: HostRuntime) -> Result<(), Fail> {
+    let alloc = rt.alloc();
+    // A second root learns what is new to it alone.
+    let got = history(alloc, REACHED, 0, "p/c.dat a.ldr")?;
+    let wanted =
+        "Missing parts/b.dat:1 [p/c.dat parts/b.dat parts/d.dat- p/d.dat- parts/c.dat-] 5\n\
+                  Unnamed a.ldr:1 [p/c.dat parts/b.dat parts/d.dat- p/d.dat- parts/c.dat- a.ldr c.dat-] 7\n";
+    assert_eq!(rt; got.as_str(), wanted);
     // The worked example faults-of-the-outside.
-    let mut shelf = shelf_of(alloc, "m.ldr|1 16 0 0 0 I x.dat", 2)?;
-    let mut workspace = Workspace::open(alloc, LIMITS)?;
-    let (answer, known) = shown(alloc, &mut workspace, &mut shelf, "m.ldr", Colour::Main)?;
-    assert_eq!(rt; (answer.as_str(), known.as_str()), ("ReadFault", "m.ldr"));
+    let got = history(alloc, "m.ldr|1 16 0 0 0 I x.dat", 2, "m.ldr")?;
+    assert_eq!(rt; got.as_str(), "ReadFault [m.ldr] 2\n");
     // The worked example ordinary-model.
-    let mut shelf = shelf_of(alloc, ORDINARY, 0)?;
-    let mut workspace = Workspace::open(alloc, LIMITS)?;
-    let (answer, known) = shown(alloc, &mut workspace, &mut shelf, "car.ldr", Colour::Main)?;
+    let got = history(alloc, ORDINARY, 0, "car.ldr")?;
     let first = "Part Code(4) parts/3001.dat left.ldr:1|\
                  Quad Code(4) cert clip Ccw -40,0,-20 -40,0,20 40,0,20 40,0,-20 parts/3001.dat:7|\
                  Tri Code(4) cert clip Ccw 0,-4,0 6,-4,0 0,-4,6 p/stud.dat:7|\
                  Line2 EdgeOf(4) cert clip Ccw 0,-4,0 6,-4,0 p/stud.dat:8|";
-    assert!(rt; answer.as_str().starts_with(first));
-    assert_eq!(rt; answer.as_str().split('|').count(), 48);
-    let all = "car.ldr left.ldr 3001.dat- parts/3001.dat right.ldr parts/stud.dat- p/stud.dat";
-    assert_eq!(rt; known.as_str(), all);
-    assert_eq!(rt; shelf.fetches(), 7);
+    assert!(rt; got.as_str().starts_with(first));
+    assert_eq!(rt; got.as_str().split('|').count(), 48);
+    let known =
+        " [car.ldr left.ldr 3001.dat- parts/3001.dat right.ldr parts/stud.dat- p/stud.dat] 7\n";
+    assert!(rt; got.as_str().ends_with(known));
     Ok(())
 }
