@@ -59,8 +59,8 @@ pub stops-file : (limits : Limits) (root file : FileId) (mid new : Known) (stop 
 stops-file limits root file mid new stop wants same at = subst (λ k. StopsFor limits root k stop) (sym same) (by stop at)
   where
     by : (stop : LearnStop) → StopsAt limits mid file stop → StopsFor limits root mid stop
-    by ReadFault at = ap is_some wants
-    by (TooBig big) at = wants ∙ ap (λ f. Some f) (sym at)
+    by ReadFault at = (ap is_some wants, at)
+    by (TooBig big) at = (wants ∙ ap (λ f. Some f) (sym at.0), at.1)
     by (Full over) at = (ap is_some wants, at)
     by Memory at = tt
 

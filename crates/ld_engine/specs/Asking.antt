@@ -1,6 +1,6 @@
 -- What a workspace answers to a query: recursive expansion of the texts that it knows once all that the root wants is
 -- learnt, or what stopped the learning.
-use Rattle.std.specs.Prelude.{◌≡◌, ℕ, List, Some, None, IsSome, Result, Ok, Err, ⊤}
+use Rattle.std.specs.Prelude.{◌≡◌, ◌<◌, length, ℕ, List, Some, None, IsSome, Result, Ok, Err, ⊤}
 use Rattle.ld_io.specs.Shelf.{Files}
 use Rattle.ld_names.specs.Finding.{IsThere}
 use Rattle.ld_names.specs.Standing.{Known, known_map}
@@ -32,8 +32,8 @@ abbrev pub Answers : Limits → FileId → Colour → Known → Result Answer An
 Answers limits root colour known (Ok answer) = IsAnswered limits root colour known (Ok answer.entries)
 Answers limits root colour known (Err (Fault fault)) = IsAnswered limits root colour known (Err fault)
 Answers limits root colour known (Err NoRoot) = (wanted known root ≡ None) × (known_map known root ≡ Some None)
-Answers limits root colour known (Err ReadFault) = IsSome (wanted known root)
-Answers limits root colour known (Err (TooBig file)) = wanted known root ≡ Some file
+Answers limits root colour known (Err ReadFault) = IsSome (wanted known root) × (length known < limits.texts)
+Answers limits root colour known (Err (TooBig file)) = (wanted known root ≡ Some file) × (length known < limits.texts)
 Answers limits root colour known (Err (Full over)) = IsSome (wanted known root) × IsLimit limits known over
 Answers limits root colour known (Err Memory) = ⊤
 

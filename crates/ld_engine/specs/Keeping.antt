@@ -1,5 +1,5 @@
 -- What keeping and learning one file, and then all that a root wants, leave.
-use Rattle.std.specs.Prelude.{◌≡◌, ◌++◌, ℕ, [], ◌∷◌, length, Some, None, IsSome, Result, Ok, Err, ⊤}
+use Rattle.std.specs.Prelude.{◌≡◌, ◌++◌, ◌<◌, ℕ, [], ◌∷◌, length, Some, None, IsSome, Result, Ok, Err, ⊤}
 use Rattle.ld_io.specs.Shelf.{Files}
 use Rattle.ld_names.specs.Standing.{Known, Text}
 use Rattle.ld_names.specs.declared.file.FileId.{FileId}
@@ -50,12 +50,12 @@ LearnsFile old new file (Err stop) = new ≡ old
 -- the limit that stops is passed by a further file
 abbrev pub IsLimit : Limits → Known → Over → Type 0
 IsLimit limits known (TooMany count) = (count ≡ length known) × (count ≡ limits.texts)
-IsLimit limits known (Weight weight) = weight ≡ weight_of known
+IsLimit limits known (Weight weight) = (weight ≡ weight_of known) × (length known < limits.texts)
 
--- why a file is not learnt
+-- Why a file is not learnt. Where there may be no file more, it is that.
 abbrev pub StopsAt : Limits → Known → FileId → LearnStop → Type 0
-StopsAt limits known file ReadFault = ⊤
-StopsAt limits known file (TooBig big) = big ≡ file
+StopsAt limits known file ReadFault = length known < limits.texts
+StopsAt limits known file (TooBig big) = (big ≡ file) × (length known < limits.texts)
 StopsAt limits known file (Full over) = IsLimit limits known over
 StopsAt limits known file Memory = ⊤
 
@@ -69,8 +69,8 @@ Tells limits files root old new (Err Memory) = learning limits files root old �
 
 -- a file is still wanted, and it is the one at which learning stopped
 abbrev pub StopsFor : Limits → FileId → Known → LearnStop → Type 0
-StopsFor limits root known ReadFault = IsSome (wanted known root)
-StopsFor limits root known (TooBig file) = wanted known root ≡ Some file
+StopsFor limits root known ReadFault = IsSome (wanted known root) × (length known < limits.texts)
+StopsFor limits root known (TooBig file) = (wanted known root ≡ Some file) × (length known < limits.texts)
 StopsFor limits root known (Full over) = IsSome (wanted known root) × IsLimit limits known over
 StopsFor limits root known Memory = ⊤
 

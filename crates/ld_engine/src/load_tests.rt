@@ -1,6 +1,7 @@
 //! Models loaded by their text blocks.
-use crate::tests::{LIMITS, file_shown, joined, known_shown};
+use crate::tests::{LIMITS, file_shown, joined, known_shown, shelf_of, shown};
 use crate::{Limits, LoadError, Workspace};
+use ld_colour::Colour;
 use ld_names::normal;
 use ld_texts::Over;
 use std::alloc::Global;
@@ -124,5 +125,48 @@ fn models_loaded(rt: HostRuntime) -> Result<(), Fail> {
     ] {
         assert_eq!(rt; format!(in alloc; "{error}")?.as_str(), message);
     }
+    Ok(())
+}
+
+// What a model that is loaded shows over a shelf.
+fn answered(alloc: Global, limits: Limits, files: &str) -> Result<String, Fail> {
+    let own = normal(alloc, b"m.ldr")?;
+    let bytes = joined(alloc, "1 16 0 0 0 I x.dat")?;
+    let mut workspace = Workspace::open(alloc, limits)?;
+    if bytes.len() > limits.file_bytes as usize {
+        return Ok(String::from_str(alloc, "too big")?);
+    }
+    if workspace.load(&own, bytes.as_slice()).is_err() {
+        return Ok(String::from_str(alloc, "not loaded")?);
+    }
+    let mut shelf = shelf_of(alloc, files, 0)?;
+    let (answer, _) = shown(alloc, &mut workspace, &mut shelf, "m.ldr", Colour::Main)?;
+    Ok(answer)
+}
+
+// The worked example workspace-limits.
+#[test]
+fn loaded_models_answered(rt: HostRuntime) -> Result<(), Fail> {
+    let alloc = rt.alloc();
+    let limits = Limits {
+        entries: 1,
+        depth: 1,
+        cache: 0,
+        texts: 2,
+        file_bytes: 100,
+        total_weight: 1000,
+    };
+    let few = answered(alloc, limits, "y.dat|0")?;
+    assert_eq!(rt; few.as_str(), "Files(2)");
+    let limits = Limits {
+        texts: 9,
+        file_bytes: 40,
+        ..limits
+    };
+    let big = "parts/x.dat|0 34567890123456789012345678901234567890_";
+    assert_eq!(rt;
+        answered(alloc, limits, big)?.as_str(),
+        "TooBig parts/x.dat"
+    );
     Ok(())
 }
