@@ -21,13 +21,13 @@ fields-trim_start (x ∷ xs) =
     let cases : (b : Bool) → P b = λ b. elim b as P [ true ↦ λ blank. fields-trim_start xs ∙ sym (fields-blank x xs blank) | false ↦ λ kept. refl ] in
     cases (is_blank x) refl
 
+pub empty : (text : List ℕ) → length text ≤ 0 → text ≡ []
+empty [] none = refl
+empty (b ∷ text) none = absurd (omega arith)
+
 pub fields-none : (line : List ℕ) → length (trim_start line) ≡ 0 → fields line ≡ []
 unfolding fields
-fields-none line ends = sym (fields-trim_start line) ∙ ap fields (empty (trim_start line) ends)
-  where
-    empty : (xs : List ℕ) → length xs ≡ 0 → xs ≡ []
-    empty [] ends = refl
-    empty (x ∷ xs) ends = absurd (omega arith)
+fields-none line ends = sym (fields-trim_start line) ∙ ap fields (empty (trim_start line) (omega arith))
 
 -- a text up to its first blank is its first field, where that is no empty piece
 first-field : (ys : List ℕ) → 0 < position_or_len is_blank ys → fields ys ≡ take (position_or_len is_blank ys) ys ∷ fields (drop (position_or_len is_blank ys) ys)
@@ -79,7 +79,3 @@ fields-end line none =
   where
     no_cons : (x : List ℕ) (xs : List (List ℕ)) → [] ≡ x ∷ xs → ⊥
     no_cons x xs e = cc
-
-    empty : (xs : List ℕ) → length xs ≤ 0 → xs ≡ []
-    empty [] ends = refl
-    empty (x ∷ xs) ends = absurd (omega arith)

@@ -13,11 +13,11 @@ use Rattle.ld_line.specs.Word.{is_plain, is_word, spaced}
 plain_is_no_blank : (b : ℕ) → is_plain b ≡ true → is_blank b ≡ false
 plain_is_no_blank b h = (or_parts (is_blank b) (b == 10) (not-true _ h)).0
 
-pub plain_word : (word : List ℕ) → is_word word ≡ true → list_all is_plain word ≡ true
+plain_word : (word : List ℕ) → is_word word ≡ true → list_all is_plain word ≡ true
 plain_word [] h = refl
 plain_word (b ∷ word) h = h
 
-pub no_blanks : (word : List ℕ) → is_word word ≡ true → All (λ b. is_blank b ≡ false) word
+no_blanks : (word : List ℕ) → is_word word ≡ true → All (λ b. is_blank b ≡ false) word
 no_blanks word h = All-weaker (λ b. is_plain b ≡ true) (λ b. is_blank b ≡ false) plain_is_no_blank word (AllPass-from_list_all is_plain word (plain_word word h))
 
 word_is_field : (word : List ℕ) → is_word word ≡ true → is_field word ≡ true
@@ -32,22 +32,16 @@ pub fields_more : (word : List ℕ) (byte : ℕ) (rest : List ℕ) → is_word w
 unfolding fields
 fields_more word byte rest h blank = ap (filter is_field) (slice_split_at is_blank word byte rest (no_blanks word h) blank) ∙ rw (word_is_field word h) refl
 
-pub position_after : (word : List ℕ) (byte : ℕ) (rest : List ℕ) → list_all is_plain word ≡ true → is_blank byte ≡ true → position_or_len is_blank (word ++ byte ∷ rest) ≡ length word
+position_after : (word : List ℕ) (byte : ℕ) (rest : List ℕ) → list_all is_plain word ≡ true → is_blank byte ≡ true → position_or_len is_blank (word ++ byte ∷ rest) ≡ length word
 position_after [] byte rest h blank = rw blank refl
 position_after (b ∷ word) byte rest h blank =
     let first : is_blank b ≡ false = plain_is_no_blank b (and_parts _ _ h).0 in
     rw first (omega (arith, position_after word byte rest (and_parts _ _ h).1 blank))
 
-pub trimmed : (word rest : List ℕ) → is_word word ≡ true → trim_start (word ++ rest) ≡ word ++ rest
+trimmed : (word rest : List ℕ) → is_word word ≡ true → trim_start (word ++ rest) ≡ word ++ rest
 trimmed [] rest h = absurd (false≢true h)
 trimmed (b ∷ word) rest h =
     let first : is_blank b ≡ false = plain_is_no_blank b (and_parts _ _ h).0 in rw first refl
-
-pub position_whole : (word : List ℕ) → list_all is_plain word ≡ true → position_or_len is_blank word ≡ length word
-position_whole [] h = refl
-position_whole (b ∷ word) h =
-    let first : is_blank b ≡ false = plain_is_no_blank b (and_parts _ _ h).0 in
-    rw first (omega (arith, position_whole word (and_parts _ _ h).1))
 
 pub fields_behind : (word : List ℕ) (byte : ℕ) (rest : List ℕ) → is_word word ≡ true → is_blank byte ≡ true → after_field (word ++ byte ∷ rest) ≡ byte ∷ rest
 unfolding after_field

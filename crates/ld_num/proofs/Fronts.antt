@@ -1,17 +1,20 @@
 -- Numerals at the front of a text.
-use Rattle.std.proofs.Common.{◌≡◌, ℕ, suc, ◌+◌, ◌-◌, ◌*◌, ◌^◌, ◌<◌, ◌≤◌, Bool, true, false, min, List, [], ◌∷◌, ◌++◌, length, take, drop, arith, refl, sym, ◌∙◌, ap, append-nil, ℤ, Some, Ok}
+use Rattle.std.proofs.Common.{◌≡◌, ℕ, suc, ◌+◌, ◌-◌, ◌*◌, ◌^◌, ◌<◌, ◌≤◌, Bool, true, false, min, List, [], ◌∷◌, ◌++◌, length, take, drop, arith, refl, sym, ◌∙◌, ap, append-nil, append_assoc, ℤ, Some, Ok}
 use Rattle.std.specs.Char.{is_ascii_digit}
 use Rattle.std.specs.List.{list_all, prefix_len}
 use Rattle.std.specs.Str.Parse.{AllDigits, digits_value, digits_value_after}
 use Rattle.std.proofs.Math.Seq.{take-add}
-use Rattle.std.proofs.lemmas.Bool.{and_from}
-use Rattle.std.proofs.lemmas.List.{length-drop}
+use Rattle.std.proofs.lemmas.Bool.{and_from, and_parts}
+use Rattle.std.proofs.lemmas.Bool.Decides.{nat_tests}
+use Rattle.std.proofs.lemmas.List.{length-drop, take-append-drop}
 use Rattle.std.proofs.lemmas.List.Folds.{length-prefix_len, list_all-append}
 use Rattle.std.proofs.lemmas.List.Sums.{prefix_len-le-length}
-use Rattle.ld_num.specs.Front.{IsFront, minus_if, plain}
+use Rattle.ld_num.specs.Field.{after_front_field, front_field, is_blank}
+use Rattle.ld_num.specs.Front.{IsFront, IsFrontNumber, is_field_end, minus_if, plain}
 use Rattle.ld_num.specs.Number.{begins_with_minus, dec_of, millionths_of, numeral_of, without_sign}
 use Rattle.ld_num.specs.Scan.{in_range, leading_digits}
 use Rattle.ld_num.specs.Text.{after_period, is_numeral_byte}
+use Rattle.ld_num.proofs.Cut.{Fails, before-fails, before-passes, from-fails, from-passes}
 use Rattle.ld_num.proofs.Nearest.{millionths_right, right_zeros, zeros_after}
 use Rattle.ld_num.proofs.Plain.{digits_are_plain, fraction_is_plain}
 use Rattle.ld_num.proofs.Printed.{made_end, unsigned, with_fraction}
@@ -91,7 +94,7 @@ range_is : (text : List ℕ) (size count : ℕ) (is_negative : Bool) (value : �
 range_is text size count is_negative value f e =
     sym (capped_range is_negative (millionths_of (plain f.whole f.fraction))) ∙ ap (in_range is_negative) (sym f.size_is) ∙ e
 
-pub front_read : (text : List ℕ) (size count : ℕ) (is_negative : Bool) (value : ℤ) → IsFront text size count → in_range is_negative size ≡ Ok value → dec_of (minus_if is_negative ++ take count text) ≡ Ok value
+front_read : (text : List ℕ) (size count : ℕ) (is_negative : Bool) (value : ℤ) → IsFront text size count → in_range is_negative size ≡ Ok value → dec_of (minus_if is_negative ++ take count text) ≡ Ok value
 unfolding dec_of millionths_of
 front_read text size count true value f e =
     rw (numeral_is text size count f) (in_range_is true (millionths_of (plain f.whole f.fraction)) ∙ range_is text size count true value f e)
@@ -104,6 +107,34 @@ bytes_are : (text : List ℕ) (size count : ℕ) → IsFront text size count →
 bytes_are text size count f =
     rw f.front (list_all-append is_numeral_byte f.whole (after_period f.fraction) ∙ and_from _ _ (digits_are_plain f.whole f.whole_digits) (fraction_is_plain f.fraction f.fraction_digits))
 
-pub front_bytes : (text : List ℕ) (size count : ℕ) (is_negative : Bool) → IsFront text size count → list_all is_numeral_byte (minus_if is_negative ++ take count text) ≡ true
+front_bytes : (text : List ℕ) (size count : ℕ) (is_negative : Bool) → IsFront text size count → list_all is_numeral_byte (minus_if is_negative ++ take count text) ≡ true
 front_bytes text size count true f = bytes_are text size count f
 front_bytes text size count false f = bytes_are text size count f
+
+-- ---- the field at the front of a text
+
+numeral_is_no_blank : (byte : ℕ) → is_numeral_byte byte ≡ true → is_blank byte ≡ false
+numeral_is_no_blank byte h = grind (arith, nat_tests)
+
+no_blanks : (bytes : List ℕ) → list_all is_numeral_byte bytes ≡ true → Fails is_blank bytes
+no_blanks [] h = tt
+no_blanks (byte ∷ bytes) h = (numeral_is_no_blank byte (and_parts _ _ h).0, no_blanks bytes (and_parts _ _ h).1)
+
+field_before : (front rest : List ℕ) → Fails is_blank front → is_field_end rest ≡ true → front_field (front ++ rest) ≡ front
+field_before front [] f end = before-fails is_blank front [] f ∙ append-nil front
+field_before front (byte ∷ rest) f end =
+    before-fails is_blank front (byte ∷ rest) f ∙ ap (λ xs. front ++ xs) (before-passes is_blank byte rest end) ∙ append-nil front
+
+rest_behind : (front rest : List ℕ) → Fails is_blank front → is_field_end rest ≡ true → after_front_field (front ++ rest) ≡ rest
+rest_behind front [] f end = from-fails is_blank front [] f
+rest_behind front (byte ∷ rest) f end = from-fails is_blank front (byte ∷ rest) f ∙ from-passes is_blank byte rest end
+
+pub front_number_is : (text digits rest : List ℕ) (size count : ℕ) (is_negative : Bool) (value : ℤ) → text ≡ minus_if is_negative ++ digits → IsFront digits size count → in_range is_negative size ≡ Ok value → rest ≡ drop count digits → is_field_end rest ≡ true → IsFrontNumber text value rest
+front_number_is text digits rest size count is_negative value sign f range behind end =
+    let front = minus_if is_negative ++ take count digits in
+    let whole : text ≡ front ++ rest = sign ∙ ap (λ xs. minus_if is_negative ++ xs) (sym (take-append-drop count digits)) ∙ sym (append_assoc (minus_if is_negative) (take count digits) (drop count digits)) ∙ ap (λ xs. front ++ xs) (sym behind) in
+    let plain = no_blanks front (front_bytes digits size count is_negative f) in
+    record {
+      number = ap (λ xs. dec_of (front_field xs)) whole ∙ ap dec_of (field_before front rest plain end) ∙ front_read digits size count is_negative value f range;
+      rest_is = ap after_front_field whole ∙ rest_behind front rest plain end;
+    }

@@ -1,9 +1,9 @@
 -- A numeral at the front of a text.
-use Rattle.std.specs.Prelude.{◌≡◌, ℕ, ◌+◌, ◌<◌, ◌≤◌, ◌==◌, ◌||◌, Bool, true, if◌then◌else◌, List, [], ◌∷◌, ◌++◌, length, min, take, ℤ, Ok}
-use Rattle.std.specs.List.{list_all}
+use Rattle.std.specs.Prelude.{◌≡◌, ℕ, ◌+◌, ◌<◌, ◌≤◌, Bool, true, if◌then◌else◌, List, [], ◌∷◌, ◌++◌, length, min, take, ℤ, Ok}
 use Rattle.std.specs.Str.Parse.{AllDigits}
+use Rattle.ld_num.specs.Field.{after_front_field, front_field, is_blank}
 use Rattle.ld_num.specs.Number.{Numeral, dec_of, millionths_of}
-use Rattle.ld_num.specs.Text.{after_period, is_numeral_byte}
+use Rattle.ld_num.specs.Text.{after_period}
 
 -- digits and decimals, without an exponent
 abbrev pub plain : List ℕ → List ℕ → Numeral
@@ -24,15 +24,12 @@ pub record IsFront (text : List ℕ) (size count : ℕ) : Type 0 where
 abbrev pub minus_if : Bool → List ℕ
 minus_if is_negative = if is_negative then 45 ∷ [] else []
 
--- nothing, or a space or tab first
+-- nothing, or a blank first
 abbrev pub is_field_end : List ℕ → Bool
 is_field_end [] = true
-is_field_end (b ∷ bytes) = (b == 32) || (b == 9)
+is_field_end (byte ∷ bytes) = is_blank byte
 
--- the text is a numeral of this number, which has digits, a minus and a period alone, with the rest behind it
-pub record StartsWith (text : List ℕ) (value : ℤ) (rest : List ℕ) : Type 0 where
-  pub front : List ℕ
-  pub is_text : text ≡ front ++ rest
-  pub read : dec_of front ≡ Ok value
-  pub bytes : list_all is_numeral_byte front ≡ true
-  pub ends : is_field_end rest ≡ true
+-- the field at the front of the text writes this number, and the rest stands behind it
+pub record IsFrontNumber (text : List ℕ) (value : ℤ) (rest : List ℕ) : Type 0 where
+  pub number : dec_of (front_field text) ≡ Ok value
+  pub rest_is : after_front_field text ≡ rest

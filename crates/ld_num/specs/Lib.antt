@@ -1,4 +1,5 @@
 pub mod Examples
+pub mod Field
 pub mod Front
 pub mod Number
 pub mod Placing

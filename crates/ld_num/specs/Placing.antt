@@ -1,6 +1,7 @@
--- Where a placement puts a point, and whether it mirrors: File Format 1.0.2, "Line Type 1". That coordinates are rounded
--- to millionths and have a range is this project's own.
+-- Where a placement puts a point, and whether it mirrors or is singular: File Format 1.0.2, "Line Type 1". That
+-- coordinates are rounded to millionths and have a range is this project's own.
 use Rattle.std.specs.Prelude.{◌^◌, Bool, ◌&&◌, if◌then◌else◌, ℤ, pos, neg_ℤ, ◌+ℤ◌, ◌*ℤ◌, int_lt, unsigned_abs, Option, Some, None}
+use Rattle.std.specs.Ordering.{int_eq}
 use Rattle.ld_num.specs.Number.{fix, is_in_range}
 use Rattle.ld_num.specs.declared.point.Point.{Point}
 use Rattle.ld_num.specs.declared.point.Placement.{Placement}
@@ -35,3 +36,7 @@ determinant by =
 -- whether the matrix mirrors
 unfoldable pub is_mirrored : Placement → Bool
 is_mirrored by = int_lt (determinant by) (pos 0)
+
+-- whether the matrix has no inverse
+unfoldable pub is_singular : Placement → Bool
+is_singular by = int_eq (determinant by) (pos 0)

@@ -13,7 +13,7 @@ mod scale;
 
 pub use dec::{Dec, NumError};
 pub use laws::print_law;
-pub use placing::{mirrored, place};
+pub use placing::{mirrored, place, singular};
 pub use point::{Placement, Point};
 pub use print::print_dec;
 pub use read::{read_dec, split_dec};

@@ -1,7 +1,7 @@
 // Placing points: exact sums of products in 128 bits, each rounded once.
 ghost use Rattle.std.specs.Prelude.{◌≡◌, ◌^◌, ◌*◌, ◌+◌, ◌≤◌, pos, ◌+ℤ◌, ◌*ℤ◌, neg_ℤ, unsigned_abs, IsTrue, if◌then◌else◌, Some, None};
 ghost use Rattle.ld_num.specs.Number.{is_in_range};
-ghost use Rattle.ld_num.specs.Placing.{determinant, exact, fixed, is_mirrored, minor, moved};
+ghost use Rattle.ld_num.specs.Placing.{determinant, exact, fixed, is_mirrored, is_singular, minor, moved};
 
 use crate::{Dec, Placement, Point};
 
@@ -87,6 +87,14 @@ pub fn mirrored(by: &Placement) -> bool
     ensures { result ≡ is_mirrored by.now }
 {
     determinant(by) < 0
+}
+
+/// Whether the matrix of a placement is singular: whether its determinant is zero.
+#[tactic(auto, unfolding(crate::specs::Placing::is_singular))]
+pub fn singular(by: &Placement) -> bool
+    ensures { result ≡ is_singular by.now }
+{
+    determinant(by) == 0
 }
 
 fn determinant(by: &Placement) -> i128

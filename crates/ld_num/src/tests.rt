@@ -1,7 +1,7 @@
 ghost use Rattle.std.specs.Prelude.{◌≡◌, true, false, Some, None, Ok, Err, pos, negsuc, codes};
 ghost use Rattle.ld_num.specs.Examples.{at, enlarged, origin};
 ghost use Rattle.ld_num.specs.Number.{dec_of};
-ghost use Rattle.ld_num.specs.Placing.{is_mirrored, moved};
+ghost use Rattle.ld_num.specs.Placing.{is_mirrored, is_singular, moved};
 
 use super::*;
 use std::alloc::{AllocError, Global};
@@ -22,7 +22,7 @@ fn numerals_compute()
 {}
 
 // Placements by the definition: a point through two references, each of which rounds; ties; a matrix of zeros; the range.
-#[tactic(auto, unfolding(crate::specs::Placing::moved, crate::specs::Placing::is_mirrored))]
+#[tactic(auto, unfolding(crate::specs::Placing::moved, crate::specs::Placing::is_mirrored, crate::specs::Placing::is_singular))]
 fn placements_compute()
     ensures inner { moved (enlarged origin (pos 333333)) (at (pos 1000000) (pos 1000001) (pos 1500000)) ≡ Some (at (pos 333333) (pos 333333) (pos 500000)) }
     ensures outer { moved (enlarged origin (pos 1500000)) (at (pos 333333) (pos 333333) (pos 0)) ≡ Some (at (pos 500000) (pos 500000) (pos 0)) }
@@ -34,12 +34,14 @@ fn placements_compute()
     ensures out_of_range { moved (enlarged (at (pos 0) (pos 0) (negsuc 0)) (pos 1000000)) (at (pos 0) (pos 0) (negsuc 999999999999)) ≡ None }
     ensures mirrored { is_mirrored (enlarged origin (negsuc 999999)) ≡ true }
     ensures flat { is_mirrored (enlarged origin (pos 0)) ≡ false }
+    ensures singular { is_singular (enlarged origin (pos 0)) ≡ true }
+    ensures not_singular { is_singular (enlarged origin (negsuc 999999)) ≡ false }
 {}
 
-// What is read of a text, as it is printed.
-fn told(alloc: Global, text: &[u8]) -> Result<Vec<u8>, AllocError> {
+// What was read of a text, as it is printed.
+fn told(alloc: Global, read: Result<Dec, NumError>) -> Result<Vec<u8>, AllocError> {
     let mut line = Vec::new(alloc);
-    match read_dec(text) {
+    match read {
         Ok(dec) => print_dec(dec, &mut line)?,
         Err(NumError::NotANumber) => line.extend_from_slice(b"no number")?,
         Err(NumError::OutOfRange) => line.extend_from_slice(b"too large")?,
@@ -155,8 +157,38 @@ inf|no number
 fn reads_and_prints_each_row(rt: HostRuntime) {
     for row in ROWS.lines() {
         let (text, want) = row.split_once('|').expect(&rt, "a row");
-        let line = told(rt.alloc(), text.as_bytes()).expect(&rt, "memory");
+        let line = told(rt.alloc(), read_dec(text.as_bytes())).expect(&rt, "memory");
         assert_eq!(rt; line.as_slice(), want.as_bytes(), "{text}");
+    }
+}
+
+// In each line a text, what is printed of the number at its front, and what stands behind that field.
+const FRONTS: &str = "\
+12|12|
+12 5|12| 5
+-0.5\t\t7 |-0.5|\t\t7 
+1.5. 2|no number| 2
++3e2 x|300| x
+1.23456789 2|1.234568| 2
+5.\t|5|\t
+1e7 1|too large| 1
+1000000.5|too large|
+12x 4|no number| 4
+12\r|no number|
+ 12|no number| 12
+\t|no number|\t
+|no number|
+";
+
+#[test]
+fn splits_each_row(rt: HostRuntime) {
+    for row in FRONTS.lines() {
+        let (text, want) = row.split_once('|').expect(&rt, "a row");
+        let (number, behind) = want.split_once('|').expect(&rt, "a row");
+        let (read, rest) = split_dec(text.as_bytes());
+        let line = told(rt.alloc(), read).expect(&rt, "memory");
+        assert_eq!(rt; line.as_slice(), number.as_bytes(), "{text}");
+        assert_eq!(rt; rest, behind.as_bytes(), "{text}");
     }
 }
 
@@ -248,14 +280,16 @@ fn places_each_row(rt: HostRuntime) {
         assert_eq!(rt; line.as_slice(), want.as_bytes(), "{row}");
     }
     for (row, want) in [
-        ("9 9 9 -1 0 0 0 1 0 0 0 1", true),
-        ("0 0 0 1 2 3 4 5 6 7 8 9.000001", true),
-        ("0 0 0 1000000 0 0 0 -1000000 0 0 0 1000000", true),
-        ("0 0 0 1 0 0 0 1 0 0 0 1", false),
-        ("0 0 0 1 2 3 4 5 6 7 8 8.999999", false),
-        ("0 0 0 1 2 3 4 5 6 7 8 9", false),
+        ("9 9 9 -1 0 0 0 1 0 0 0 1", (true, false)),
+        ("0 0 0 1 2 3 4 5 6 7 8 9.000001", (true, false)),
+        ("0 0 0 1000000 0 0 0 -1000000 0 0 0 1000000", (true, false)),
+        ("0 0 0 1 0 0 0 1 0 0 0 1", (false, false)),
+        ("0 0 0 1 2 3 4 5 6 7 8 8.999999", (false, false)),
+        ("0 0 0 1 2 3 4 5 6 7 8 9", (false, true)),
+        ("0 0 0 1 0 0 0 0 0 0 0 1", (false, true)),
     ] {
-        assert!(rt; mirrored(&placement(row)) == want, "{row}");
+        let by = placement(row);
+        assert!(rt; (mirrored(&by), singular(&by)) == want, "{row}");
     }
 }
 
