@@ -1,6 +1,7 @@
 pub mod Computed
 pub mod Agreement
 pub mod Action
+pub mod Lines
 pub mod Links
 pub mod Cuts
 pub mod Ends

@@ -3,6 +3,8 @@ use Rattle.std.specs.Prelude.{◌≡◌, ◌≤◌, ◌<◌, ◌+◌, ◌++◌, 
 use Rattle.ld_names.specs.Standing.{Known, Map, Text}
 use Rattle.ld_names.specs.declared.file.FileId.{FileId}
 use Rattle.ld_names.specs.declared.file.TextId.{TextId}
+use Rattle.ld_line.specs.declared.line.Line.{Line}
+use Rattle.ld_bfc.specs.LineState.{state_before}
 use Rattle.ld_colour.specs.Colour.{is_lawful, under}
 use Rattle.ld_colour.specs.declared.colour.Colour.{Colour}
 use Rattle.ld_colour.specs.declared.colour.Colour.TheVariants.{Code}
@@ -12,7 +14,7 @@ use Rattle.ld_entry.specs.Expansion.{end_of, Expansion, expansion_of, first_entr
 use Rattle.ld_entry.specs.Lawful.{IsLawfulEntry, IsLawfulOutcome}
 use Rattle.ld_entry.specs.Learnt.{IsLearnt}
 use Rattle.ld_entry.specs.NumberedTexts.{known_texts, NumberedTexts, standing_texts, texts_over}
-use Rattle.ld_entry.specs.Outcomes.{all, all_by_line, concatenation, Context, context_of}
+use Rattle.ld_entry.specs.Outcomes.{all, all_by_line, concatenation, Context, context_of, Enter, line_outcomes, outcomes_by_line}
 use Rattle.ld_entry.specs.declared.entry.Entry.{Entry}
 use Rattle.ld_entry.specs.declared.entry.Entry.TheVariants.{Drawn, Part}
 use Rattle.ld_entry.specs.declared.entry.Fault.{Fault}
@@ -101,6 +103,15 @@ pub record EndsLaws : Type 0 where
   pub counts : (most : ℕ) (lines : List (List Outcome)) (line : ℕ) → line < length lines → slice_get (expansion_of most lines).line_ends line ≡ Some (length (first_entries most (concatenation (take (suc line) lines))))
   -- and these are the first ones of all
   pub first : (most : ℕ) (lines : List (List Outcome)) (line : ℕ) → take (length (first_entries most (concatenation (take line lines)))) (expansion_of most lines).entries ≡ first_entries most (concatenation (take line lines))
+
+-- ---- Lines.
+
+-- What the lines of the context's text give, for whatever a reference enters:
+pub record LineLaws : Type 0 where
+  -- there are as many as the text has lines
+  pub count : (enter : Enter) (context : Context) → length (outcomes_by_line enter context) ≡ length (context.texts.lines context.text)
+  -- each is what its own line gives in the state of back face culling before that line
+  pub line : (enter : Enter) (context : Context) (index : ℕ) (line : Line) → slice_get (context.texts.lines context.text) index ≡ Some line → slice_get (outcomes_by_line enter context) index ≡ Some (line_outcomes enter context (state_before (context.texts.is_part context.text) (context.texts.lines context.text) (index + 1)) (record { text = context.text; line = index + 1 }) line)
 
 -- ---- Known and standing texts.
 

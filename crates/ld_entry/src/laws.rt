@@ -1,6 +1,6 @@
-ghost use Rattle.ld_entry.specs.Laws.{ActionLaw, CarryLaws, CutLaws, EndsLaws, LawfulLaw, LinkLaw, StandingLaw, TintLaw};
+ghost use Rattle.ld_entry.specs.Laws.{ActionLaw, CarryLaws, CutLaws, EndsLaws, LawfulLaw, LineLaws, LinkLaw, StandingLaw, TintLaw};
 
-use ld_bfc::with_laws;
+use ld_bfc::{state_laws, with_laws};
 use ld_colour::{lawful_colours, under_laws};
 use ld_names::{file_laws, lookup_law};
 
@@ -47,6 +47,13 @@ pub fn cut_laws()
 pub fn ends_laws()
     ensures { EndsLaws }
 {}
+
+/// Each line of a text gives what it gives in the state of back face culling before it.
+pub fn line_laws()
+    ensures { LineLaws }
+{
+    state_laws();
+}
 
 /// Where nothing is wanted, the known texts give what the texts as they stand give.
 pub fn standing_law()
