@@ -1,0 +1,3 @@
+pub mod Ldraw
+pub mod Shown
+pub mod Words

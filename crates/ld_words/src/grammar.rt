@@ -1,0 +1,68 @@
+ghost use Rattle.std.specs.Prelude.{◌≡◌, ◌&&◌, is_some, map, not, string_bytes};
+ghost use Rattle.ld_words.specs.Words.{are_options, contains, intent_of, is_option, with_rest};
+
+use crate::value::{is_argument, one_word, two_words, value_fits};
+
+/// Whether the words (those after the program's name) are in the grammar: a command word, its one or
+/// two positional words, and options of two words each, in any order and none twice.
+#[tactic(auto, unfolding(crate::specs::Words::intent_of))]
+pub fn is_command(words: &[String]) -> bool
+    ensures { result ≡ is_some (intent_of (map string_bytes words.now)) }
+{
+    match words {
+        [command, word, rest @ ..] => {
+            is_argument(command.as_str())
+                && is_argument(word.as_str())
+                && is_command_with(command.as_str(), word.as_str(), rest)
+        }
+        _ => false,
+    }
+}
+
+// With what stands behind the first positional word.
+fn is_command_with(command: &str, word: &str, rest: &[String]) -> bool
+    ensures { result ≡ is_some (with_rest command.now word.now (map string_bytes rest.now)) }
+{
+    match rest {
+        [] => one_word(command, word).is_some(),
+        [next, options @ ..] => {
+            if is_argument(next.as_str()) {
+                two_words(command, word, next.as_str()).is_some() && are_options(options)
+            } else {
+                one_word(command, word).is_some() && are_options(rest)
+            }
+        }
+    }
+}
+
+fn are_options(words: &[String]) -> bool
+    ensures { result ≡ are_options (map string_bytes words.now) }
+{
+    let mut rest = words;
+    while let [name, value, after @ ..] = rest {
+        if !is_option(name.as_str(), value.as_str(), after) {
+            return false;
+        }
+        rest = after;
+    }
+    rest.is_empty()
+}
+
+fn is_option(name: &str, value: &str, after: &[String]) -> bool
+    ensures { result ≡ is_option name.now value.now (map string_bytes after.now) }
+{
+    is_argument(value) && value_fits(name, value) && !contains(name, after)
+}
+
+fn contains(name: &str, words: &[String]) -> bool
+    ensures { result ≡ contains name.now (map string_bytes words.now) }
+{
+    let mut rest = words;
+    while let [word, after @ ..] = rest {
+        if word.as_str() == name {
+            return true;
+        }
+        rest = after;
+    }
+    false
+}

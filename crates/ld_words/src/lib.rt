@@ -1,0 +1,16 @@
+//! The words of the command line: what they ask for, by this project's own grammar, with the values
+//! that `clap` reads.
+#![tactic(auto)]
+
+mod grammar;
+mod listing;
+mod read;
+mod request;
+#[cfg(test)]
+mod tests;
+mod value;
+
+pub use grammar::is_command;
+pub use listing::Listing;
+pub use read::{given_words, read_request};
+pub use request::{Options, Request, Task};
