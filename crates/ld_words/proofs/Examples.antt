@@ -1,5 +1,5 @@
 -- The definition at words that are written out.
-use Rattle.std.proofs.Common.{◌≡◌, ◌==◌, ℕ, List, [], ◌∷◌, Option, Some, None, refl, codes}
+use Rattle.std.proofs.Common.{◌≡◌, ◌==◌, ℕ, List, Option, Some, None, refl, codes}
 use Rattle.std.specs.List.{slice_split}
 use Rattle.ld_line.specs.Colour.{colour_word}
 use Rattle.ld_line.specs.Digits.{decimal_number}

@@ -9,9 +9,13 @@ use crate::request::Task;
 use ld_line::{read_colour, read_number};
 
 pub(crate) const MOST_WORKERS: u32 = 16;
+
 pub(crate) const MOST_ENTRIES: u32 = 4_000_000;
+
 pub(crate) const MOST_DEPTH: u32 = 64;
+
 pub(crate) const MOST_CACHE: u32 = 8_000_000;
+
 const MOST_BRICKS: u32 = 100_000;
 
 // Neither empty nor with `-` at its start.
