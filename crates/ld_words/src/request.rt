@@ -23,14 +23,14 @@ pub enum Task<'a> {
 pub struct Options<'a> {
     /// The file that defines colours.
     pub colours: Option<&'a str>,
-    /// The number of the main colour's word.
+    /// The colour of the main model.
     pub main: u32,
     /// How many worker threads: 1 to 16.
     pub workers: u32,
     /// The most entries of an answer: 1 to 4,000,000.
     pub max_entries: u32,
-    /// The most texts on the way to one: 1 to 64.
+    /// The most files on a way from a root: 1 to 64.
     pub max_depth: u32,
-    /// How many kept entries the cache holds: 0 to 8,000,000.
+    /// The most entries that are kept for later answers: 0 to 8,000,000.
     pub cache: u32,
 }
