@@ -1,0 +1,134 @@
+ghost use Rattle.std.specs.Prelude.{◌≡◌, ◌++◌, ◌/◌, ◌%◌, ◌<◌, codes, decimal, true, OnOk};
+ghost use Rattle.std.specs.Fmt.{digit_glyph};
+ghost use Rattle.ld_colour.specs.Table.{counting, rgb_in};
+ghost use Rattle.ld_line.specs.Printing.{six_hex};
+ghost use Rattle.ld_texts.specs.Known.{file_at};
+ghost use Rattle.ld_report.specs.Pieces.{colour_text, folder_text, numbered_text, point_text, rgb_text, source_text};
+
+use itoa::Buffer;
+use ld_colour::{Colour, Table};
+use ld_entry::Source;
+use ld_names::{Folder, TextId};
+use ld_num::{Point, print_dec};
+use ld_texts::Texts;
+use std::alloc::AllocError;
+
+#[tactic(auto, unfolding(ld_line::specs::Printing::direct_text))]
+fn print_colour(colour: Colour, into: &mut Vec<u8>) -> Result<(), AllocError>
+    ensures { OnOk result (into.new.items ≡ into.old.items ++ colour_text colour) }
+{
+    match colour {
+        Colour::Main => into.extend_from_slice(b"16"),
+        Colour::Edge => into.extend_from_slice(b"24"),
+        Colour::Code(code) => print_number(code, into),
+        Colour::EdgeOf(code) => {
+            into.push(b'e')?;
+            print_number(code, into)
+        }
+        Colour::Direct(value) => {
+            let [a, b, c, d, e, f] = six_hex(value);
+            into.extend_from_slice(&[b'0', b'x', b'2', a, b, c, d, e, f])
+        }
+    }
+}
+
+// A space, and red, green and blue.
+fn print_rgb(rgb: Option<u32>, into: &mut Vec<u8>) -> Result<(), AllocError>
+    ensures { OnOk result (into.new.items ≡ into.old.items ++ codes " " ++ rgb_text rgb) }
+{
+    match rgb {
+        Some(value) => {
+            let [a, b, c, d, e, f] = six_hex(value);
+            into.extend_from_slice(&[b' ', b'#', a, b, c, d, e, f])
+        }
+        None => into.extend_from_slice(b" -"),
+    }
+}
+
+// The word that begins an entry's line, its colour, and the colour's red, green and blue.
+pub(crate) fn print_head(
+    word: &[u8],
+    table: &Table,
+    colour: Colour,
+    into: &mut Vec<u8>,
+) -> Result<(), AllocError>
+    ensures { OnOk result (into.new.items ≡ into.old.items ++ (word.now ++ codes " " ++ colour_text colour ++ codes " " ++ rgb_text (rgb_in (counting table.now) colour))) }
+{
+    into.extend_from_slice(word)?;
+    into.push(b' ')?;
+    print_colour(colour, into)?;
+    print_rgb(table.rgb(colour), into)
+}
+
+fn six_hex(value: u32) -> [u8; 6]
+    ensures { result ≡ six_hex value }
+{
+    [
+        hex_digit(value / 0x100000 % 16),
+        hex_digit(value / 0x10000 % 16),
+        hex_digit(value / 0x1000 % 16),
+        hex_digit(value / 0x100 % 16),
+        hex_digit(value / 0x10 % 16),
+        hex_digit(value % 16),
+    ]
+}
+
+#[inline(always)]
+fn hex_digit(digit: u32) -> u8
+    requires { digit < 16 }
+    ensures { result ≡ digit_glyph true digit }
+{
+    if digit < 10 {
+        b'0' + digit as u8
+    } else {
+        b'7' + digit as u8
+    }
+}
+
+pub(crate) fn print_number(number: u32, into: &mut Vec<u8>) -> Result<(), AllocError>
+    ensures { OnOk result (into.new.items ≡ into.old.items ++ decimal number) }
+{
+    into.extend_from_slice(Buffer::new().format(number).as_bytes())
+}
+
+pub(crate) fn print_point(point: &Point, into: &mut Vec<u8>) -> Result<(), AllocError>
+    ensures { OnOk result (into.new.items ≡ into.old.items ++ point_text point.now) }
+{
+    print_dec(point.x, into)?;
+    into.push(b',')?;
+    print_dec(point.y, into)?;
+    into.push(b',')?;
+    print_dec(point.z, into)
+}
+
+pub(crate) fn print_file(texts: &Texts, id: TextId, into: &mut Vec<u8>) -> Result<(), AllocError>
+    ensures { OnOk result (into.new.items ≡ into.old.items ++ numbered_text (file_at texts.now.known id.0)) }
+{
+    let Some(file) = texts.file(id) else {
+        return Ok(());
+    };
+    into.extend_from_slice(folder_word(file.folder))?;
+    into.extend_from_slice(file.name.bytes())
+}
+
+fn folder_word(folder: Folder) -> &'static [u8]
+    ensures { result.now ≡ folder_text folder }
+{
+    match folder {
+        Folder::Model => b"model/",
+        Folder::Parts => b"parts/",
+        Folder::P => b"p/",
+    }
+}
+
+pub(crate) fn print_source(
+    texts: &Texts,
+    source: Source,
+    into: &mut Vec<u8>,
+) -> Result<(), AllocError>
+    ensures { OnOk result (into.new.items ≡ into.old.items ++ source_text texts.now.known source) }
+{
+    print_file(texts, source.text, into)?;
+    into.push(b':')?;
+    print_number(source.line, into)
+}
