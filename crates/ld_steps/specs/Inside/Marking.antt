@@ -1,0 +1,26 @@
+-- Steps that are marked line by line.
+use Rattle.std.specs.Prelude.{◌≡◌, ◌+◌, false, List, [], ◌∷◌, ◌++◌, take, drop, Some, slice_get}
+use Rattle.std.specs.List.{list_any}
+use Rattle.ld_line.specs.declared.line.Line.{Line}
+use Rattle.ld_steps.specs.Steps.{last_of, shows, step_lines, steps_between}
+use Rattle.ld_steps.specs.View.{view_behind}
+use Rattle.ld_steps.specs.declared.marking.Marking.{Marking}
+
+-- the steps of these lines that have ended, up to the lines that are passed, and what is known of the open one
+pub record IsMarked (lines : List Line) (marking : Marking) : Type 0 where
+  pub marks : marking.marks.items ≡ steps_between lines 0 (step_lines 0 (take marking.passed lines))
+  pub view : marking.view.items ≡ view_behind lines marking.passed
+  pub ended : marking.ended ≡ last_of 0 (step_lines 0 (take marking.passed lines))
+  pub drawn : marking.drawn ≡ list_any shows (drop marking.ended (take marking.passed lines))
+
+-- one step more has ended, at the last line that is passed
+pub record EndsStep (old new : Marking) : Type 0 where
+  pub marks : new.marks.items ≡ old.marks.items ++ record { first_line = old.ended + 1; last_line = old.passed; view = old.view.items } ∷ []
+  pub view : new.view.items ≡ old.view.items
+  pub passed : new.passed ≡ old.passed
+  pub ended : new.ended ≡ old.passed
+  pub drawn : new.drawn ≡ false
+
+-- a line more is passed
+abbrev pub MarksLine : Line → Marking → Marking → Type 0
+MarksLine line old new = (lines : List Line) → slice_get lines old.passed ≡ Some line → IsMarked lines old → IsMarked lines new
