@@ -4,6 +4,8 @@
 mod laws;
 mod marking;
 mod step;
+#[cfg(test)]
+mod tests;
 mod view;
 
 pub use laws::{part_law, step_laws};
