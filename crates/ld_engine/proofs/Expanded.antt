@@ -91,12 +91,12 @@ unfolding all_by_line
 all-is zero context = refl
 all-is (suc left) context = refl
 
-at-line : {A : Type 0} (xs : List A) (n : ℕ) (x : A) → slice_get xs n ≡ Some x → drop n xs ≡ x ∷ drop (suc n) xs
+pub at-line : {A : Type 0} (xs : List A) (n : ℕ) (x : A) → slice_get xs n ≡ Some x → drop n xs ≡ x ∷ drop (suc n) xs
 at-line [] n x is = cc
 at-line (y ∷ xs) zero x is = let same : y ≡ x = cc in ap (λ z. z ∷ xs) same
 at-line (y ∷ xs) (suc n) x is = at-line xs n x is
 
-past-lines : {A : Type 0} (xs : List A) (n : ℕ) → slice_get xs n ≡ None → drop n xs ≡ []
+pub past-lines : {A : Type 0} (xs : List A) (n : ℕ) → slice_get xs n ≡ None → drop n xs ≡ []
 past-lines [] zero is = refl
 past-lines [] (suc n) is = refl
 past-lines (y ∷ xs) zero is = cc

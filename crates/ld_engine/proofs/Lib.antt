@@ -1,6 +1,8 @@
 pub mod Reached
 pub mod Gone
 pub mod Gathered
+pub mod Rooted
+pub mod Stepped
 pub mod Expanded
 pub mod Numbered
 pub mod Learned

@@ -1,13 +1,13 @@
 -- Where nothing is wanted for a root, the texts that it reaches are learnt.
 use Rattle.std.proofs.Common.{◌≡◌, ◌<◌, ◌≤◌, ◌+◌, ◌++◌, ◌||◌, ◌==◌, ◌⊎◌, inl, inr, ℕ, zero, suc, Bool, true, false, cond, List, [], ◌∷◌, length, map, Option, Some, None, refl, ap, sym, subst, ◌∙◌, append-nil, arith, tests}
-use Rattle.std.specs.Prelude.{slice_get, nat_eq, option_map}
+use Rattle.std.specs.Prelude.{slice_get, nat_eq, option_map, unwrap_or}
 use Rattle.std.specs.List.{AllByRecursion, IsDistinct, list_any}
 use Rattle.std.specs.Option.{is_some}
 use Rattle.std.proofs.lemmas.Bool.{cases_Bool, lt-ltb}
 use Rattle.std.proofs.lemmas.List.Folds.{list_any-append}
 use Rattle.std.proofs.lemmas.Map.Keys.{IsDistinct-cons, IsDistinct-head, IsDistinct-tail}
 use Rattle.std.proofs.lemmas.Option.{slice_get_within}
-use Rattle.ld_names.specs.Standing.{Absent, find, Found, Known, known_map, Present, Unknown}
+use Rattle.ld_names.specs.Standing.{Absent, find, Found, Known, known_map, Present, standing, Text, Unknown}
 use Rattle.ld_names.specs.declared.file.FileId.{FileId}
 use Rattle.ld_names.specs.declared.file.TextId.{TextId}
 use Rattle.ld_line.specs.Reading.{line_of}
@@ -18,9 +18,14 @@ use Rattle.ld_texts.specs.Laws.{NumbersAgree}
 use Rattle.ld_texts.specs.Reach.{file_reaches, going_on, line_reaches, lines_in, lines_reach, reach, Reached, reached_by, Reaches, texts_reach, wanted_in, Wants, with_found, with_reached}
 use Rattle.ld_entry.specs.Learnt.{IsInside as IsInSet, IsLearnt, WantsNothing}
 use Rattle.ld_entry.specs.Laws.{StandingLaw}
-use Rattle.ld_entry.specs.NumberedTexts.{found_from, known_files, known_texts, number_of}
+use Rattle.ld_entry.specs.Answers.{answer, left_below}
+use Rattle.ld_entry.specs.Carrying.{colour_above}
+use Rattle.ld_entry.specs.NumberedTexts.{found_from, known_files, known_texts, lines_of_file, number_of, standing_texts}
+use Rattle.ld_entry.specs.NumberedTexts as numbered
+use Rattle.ld_steps.specs.Parts.{parts_of}
 use Rattle.ld_engine.specs.Going.{Grows, IsInside}
 use Rattle.ld_engine.specs.Laws.{StandsForRoots}
+use Rattle.ld_engine.specs.Stepping.{root_outcomes, steps_in, with_steps}
 use Rattle.ld_engine.proofs.Gone.{append-grows, at-behind, few-inside, has-at}
 use Rattle.ld_engine.proofs.Numbered.{files-at, lines-seen, number-of}
 use Rattle.ld_engine.proofs.Reached.{grows-with, id-within, inside-with}
@@ -241,8 +246,20 @@ module _ (numbers : NumbersAgree) (known : Known) where
           λ text is_inside. (let at = place-of final text.0 is_inside in settled.1 at.0 text.0 (omega arith) at.1),
         )
 
--- so the known texts give for it what the texts as they stand give
+-- the lines of a known root stand as they are known
+root-lines : NumbersAgree → (known : Known) (shelf : FileId → Text) (root : FileId) (id : ℕ) → id_of known root ≡ Some id → (standing_texts known shelf).lines (record { 0 = id }) ≡ (known_texts known).lines (record { 0 = id })
+unfolding standing
+root-lines numbers known shelf root id number =
+    let at : slice_get (known_files known) id ≡ Some root = files-at known id ∙ numbers.file known root id number in
+    let there : known_map known root ≡ Some (lines_at known id) = numbers.map known root ∙ ap (option_map (lines_at known)) number in
+    let stands : standing (known_map known) shelf root ≡ Some (lines_at known id) = ap (λ text. Some (unwrap_or text (shelf root))) there in
+    ap (lines_of_file (standing (known_map known) shelf)) at ∙ ap (λ text. map line_of (numbered.lines_in text)) (stands ∙ sym there) ∙ sym (ap (lines_of_file (known_map known)) at)
+
+-- so the known texts give for it what the texts as they stand give, in the same steps
 pub stands : NumbersAgree → StandingLaw → StandsForRoots
+unfolding steps_in
 stands numbers law known shelf distinct root id number none depth most colour =
     let settled = root-settles numbers known distinct root id (reach known root) refl number none in
-    law.answers (inside settled.0) known shelf settled.2 depth most (record { 0 = id }) colour settled.1
+    let same : steps_in (standing_texts known shelf) depth (record { 0 = id }) colour ≡ steps_in (known_texts known) depth (record { 0 = id }) colour = ap (λ ls. parts_of ls (map length (root_outcomes (standing_texts known shelf) depth (record { 0 = id }) colour))) (root-lines numbers known shelf root id number) ∙ ap (λ os. parts_of ((known_texts known).lines (record { 0 = id })) (map length os)) (law.outcomes (inside settled.0) known shelf settled.2 (left_below depth []) [] (record { 0 = id }) (colour_above colour) settled.1) in
+    ap (λ steps. with_steps steps (answer (standing_texts known shelf) depth most (record { 0 = id }) colour)) same
+    ∙ ap (with_steps (steps_in (known_texts known) depth (record { 0 = id }) colour)) (law.answers (inside settled.0) known shelf settled.2 depth most (record { 0 = id }) colour settled.1)

@@ -1,15 +1,24 @@
--- What the answers over the known texts say of the texts as they stand.
-use Rattle.std.specs.Prelude.{◌≡◌, ℕ, Some, None}
+-- What answers say: over the known texts, of the texts as they stand, and of their steps.
+use Rattle.std.specs.Prelude.{◌≡◌, ℕ, length, Some, None, Ok}
 use Rattle.ld_names.specs.Standing.{Known, Text}
 use Rattle.ld_names.specs.declared.file.FileId.{FileId}
+use Rattle.ld_names.specs.declared.file.TextId.{TextId}
 use Rattle.ld_texts.specs.Known.{AreDistinct, id_of}
 use Rattle.ld_texts.specs.Reach.{wanted}
 use Rattle.ld_colour.specs.declared.colour.Colour.{Colour}
-use Rattle.ld_entry.specs.Answers.{answer}
-use Rattle.ld_entry.specs.NumberedTexts.{known_texts, standing_texts}
+use Rattle.ld_steps.specs.Laws.{AreSteps}
+use Rattle.ld_entry.specs.NumberedTexts.{known_texts, NumberedTexts, standing_texts}
+use Rattle.ld_engine.specs.Stepping.{answer_with_steps}
+use Rattle.ld_engine.specs.declared.asking.Answer.{Answer}
 
 -- Where nothing is wanted for a root, recursive expansion of the known texts answers it as that of the texts as they
 -- stand does, whatever the shelf has of the files that are not known.
 abbrev pub StandsForRoots : Type 0
 StandsForRoots =
-    (known : Known) (shelf : FileId → Text) → AreDistinct known → (root : FileId) (id : ℕ) → id_of known root ≡ Some id → wanted known root ≡ None → (depth most : ℕ) (colour : Colour) → answer (standing_texts known shelf) depth most (record { 0 = id }) colour ≡ answer (known_texts known) depth most (record { 0 = id }) colour
+    (known : Known) (shelf : FileId → Text) → AreDistinct known → (root : FileId) (id : ℕ) → id_of known root ≡ Some id → wanted known root ≡ None → (depth most : ℕ) (colour : Colour) → answer_with_steps (standing_texts known shelf) depth most (record { 0 = id }) colour ≡ answer_with_steps (known_texts known) depth most (record { 0 = id }) colour
+
+-- The steps of an answer: their ranges follow one another and cover its entries, and each view is the one before it, or
+-- that changed by one rotation step.
+abbrev pub StepsOfAnswers : Type 0
+StepsOfAnswers =
+    (texts : NumberedTexts) (depth most : ℕ) (root : TextId) (colour : Colour) (answer : Answer) → answer_with_steps texts depth most root colour ≡ Ok answer → AreSteps (length answer.entries) answer.steps

@@ -3,10 +3,12 @@ pub mod Fetching
 pub mod Found
 pub mod Gathering
 pub mod Going
+pub mod Inside
 pub mod Keeping
 pub mod Laws
 pub mod Learning
 pub mod Limits
 pub mod Loading
+pub mod Stepping
 pub mod Stopping
 pub mod Workspace

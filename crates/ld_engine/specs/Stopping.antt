@@ -1,9 +1,8 @@
 -- How learning and expansion pass on what stopped them.
-use Rattle.std.specs.Prelude.{◌≡◌, List, Some, None, Result, Ok, Err, ⊤}
+use Rattle.std.specs.Prelude.{◌≡◌, Some, None, Result, Ok, Err, ⊤}
 use Rattle.ld_names.specs.Standing.{Known, known_map}
 use Rattle.ld_names.specs.declared.file.FileId.{FileId}
 use Rattle.ld_colour.specs.declared.colour.Colour.{Colour}
-use Rattle.ld_entry.specs.declared.entry.Entry.{Entry}
 use Rattle.ld_entry.specs.declared.entry.Fault.{Fault as LineFault}
 use Rattle.ld_engine.specs.Asking.{IsAnswered}
 use Rattle.ld_engine.specs.declared.asking.Answer.{Answer}
@@ -19,13 +18,13 @@ answer_stopped (stop.TooBig file) = TooBig file
 answer_stopped (stop.Full over) = Full over
 answer_stopped stop.Memory = Memory
 
-abbrev pub answered_as : Result (List Entry) LineFault → Result Answer AnswerError
-answered_as (Ok entries) = Ok (record { entries = entries })
+abbrev pub answered_as : Result Answer LineFault → Result Answer AnswerError
+answered_as (Ok answer) = Ok answer
 answered_as (Err fault) = Err (Fault fault)
 
 -- the answer for a root for which all is learnt
 abbrev pub AnswersKnown : Limits → FileId → Colour → Known → Result Answer AnswerError → Type 0
-AnswersKnown limits root colour known (Ok answer) = IsAnswered limits root colour known (Ok answer.entries)
+AnswersKnown limits root colour known (Ok answer) = IsAnswered limits root colour known (Ok answer)
 AnswersKnown limits root colour known (Err (Fault fault)) = IsAnswered limits root colour known (Err fault)
 AnswersKnown limits root colour known (Err NoRoot) = known_map known root ≡ Some None
 AnswersKnown limits root colour known (Err ReadFault) = ⊥

@@ -1,16 +1,20 @@
 // The answer of a root among the known texts.
-ghost use Rattle.std.specs.Prelude.{◌≡◌, ◌<◌, IfOk, Ok, Err, map};
-ghost use Rattle.ld_entry.specs.Answers.{answer, answer_by, source_of};
+ghost use Rattle.std.specs.Prelude.{◌≡◌, ◌<◌, IfOk, map};
+ghost use Rattle.ld_entry.specs.Answers.{answer_by, source_of};
 ghost use Rattle.ld_entry.specs.Laws.{tinted_entry};
 ghost use Rattle.ld_entry.specs.NumberedTexts.{known_texts};
+ghost use Rattle.ld_engine.specs.Stepping.{answer_with_steps};
 
-use crate::expand::{NO_POINTS, expand_text};
+use crate::asking::Answer;
+use crate::expand::NO_POINTS;
+use crate::root::{RootExpansion, expand_root, read_lines};
+use crate::stepping::step_parts;
 use ld_colour::{Colour, under, under_laws};
 use ld_entry::{Entry, Fault, Source, What, action_law, cut_laws};
 use ld_names::{List, TextId};
 use ld_num::Point;
+use ld_steps::{step_laws, steps_of};
 use ld_texts::Texts;
-use smallvec::SmallVec;
 use std::alloc::{AllocError, Global};
 
 // An entry where a colour is current.
@@ -89,16 +93,30 @@ pub(crate) fn answer_of(
     colour: Colour,
     depth: u32,
     most: u32,
-) -> Result<Result<List<Entry>, Fault>, AllocError>
+) -> Result<Result<Answer, Fault>, AllocError>
     requires { 0 < depth }
-    ensures { IfOk result (λ given. given ≡ answer (known_texts texts.now.known) depth most root colour) }
+    ensures { IfOk result (λ given. given ≡ answer_with_steps (known_texts texts.now.known) depth most root colour) }
 {
     cut_laws();
     action_law();
     under_laws();
-    let mut way = SmallVec::new(alloc);
-    let mut entries = Vec::new(alloc);
-    let end = expand_text(alloc, texts, &mut way, root, depth - 1, most, &mut entries)?;
+    step_laws();
+    let lines = read_lines(alloc, texts, root)?;
+    let marks = steps_of(alloc, lines.as_slice())?;
+    let RootExpansion {
+        mut entries,
+        line_ends,
+        end,
+    } = expand_root(alloc, texts, root, lines, depth - 1, most)?;
     tint(colour, &mut entries);
-    Ok(answered(most, entries, end))
+    match answered(most, entries, end) {
+        Ok(entries) => {
+            let steps = step_parts(alloc, marks, line_ends.as_slice())?;
+            Ok(Ok(Answer {
+                entries,
+                steps: List::from_vec(steps),
+            }))
+        }
+        Err(fault) => Ok(Err(fault)),
+    }
 }

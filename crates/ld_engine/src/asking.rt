@@ -13,6 +13,7 @@ use ld_colour::Colour;
 use ld_entry::{Entry, Fault};
 use ld_io::Shelf;
 use ld_names::{FileId, List, TextId};
+use ld_steps::StepPart;
 use ld_texts::{Over, number_law};
 use thiserror::Error;
 
@@ -21,6 +22,9 @@ use thiserror::Error;
 pub struct Answer {
     /// All entries, in reading order.
     pub entries: List<Entry>,
+    /// The steps of the root's lines, with the entries that come from each. Steps of other texts
+    /// count for nothing.
+    pub steps: List<StepPart>,
 }
 
 /// Why a query is not answered.
@@ -107,11 +111,11 @@ impl Workspace {
     }
 }
 
-fn answered(given: Result<List<Entry>, Fault>) -> Result<Answer, AnswerError>
+fn answered(given: Result<Answer, Fault>) -> Result<Answer, AnswerError>
     ensures { result ≡ answered_as given }
 {
     match given {
-        Ok(entries) => Ok(Answer { entries }),
+        Ok(answer) => Ok(answer),
         Err(fault) => Err(AnswerError::Fault(fault)),
     }
 }

@@ -147,7 +147,7 @@ fn enter_file(
 
 // What a line gives, by the state before it.
 #[cycle(expand)]
-fn expand_line(
+pub(crate) fn expand_line(
     alloc: Global,
     texts: &Texts,
     way: &mut SmallVec<TextId, 64>,
@@ -200,7 +200,7 @@ fn expand_line(
 // Appends what a text gives at the end of a way, below nothing, up to its first fault or an entry
 // too many.
 #[cycle(expand)]
-pub(crate) fn expand_text(
+fn expand_text(
     alloc: Global,
     texts: &Texts,
     way: &mut SmallVec<TextId, 64>,

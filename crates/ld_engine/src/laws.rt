@@ -1,6 +1,7 @@
-ghost use Rattle.ld_engine.specs.Laws.{StandsForRoots};
+ghost use Rattle.ld_engine.specs.Laws.{StandsForRoots, StepsOfAnswers};
 
 use ld_entry::standing_law;
+use ld_steps::part_law;
 use ld_texts::number_law;
 
 /// Where nothing is wanted for a root, the known texts answer it as the texts as they stand do.
@@ -9,4 +10,12 @@ pub fn root_law()
 {
     number_law();
     standing_law();
+}
+
+/// The steps of an answer are at least one, their ranges follow one another and cover its entries,
+/// and each view is the one before it, or that changed by one rotation step.
+pub fn steps_law()
+    ensures { StepsOfAnswers }
+{
+    part_law();
 }

@@ -17,13 +17,15 @@ mod limits;
 #[cfg(test)]
 mod load_tests;
 mod loading;
+mod root;
 mod seen;
+mod stepping;
 #[cfg(test)]
 mod tests;
 mod workspace;
 
 pub use asking::{Answer, AnswerError};
-pub use laws::root_law;
+pub use laws::{root_law, steps_law};
 pub use limits::{Limits, OpenError};
 pub use loading::LoadError;
 pub use workspace::Workspace;

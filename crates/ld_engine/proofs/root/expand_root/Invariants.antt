@@ -1,0 +1,15 @@
+use Rattle.std.proofs.Common.{◌≡◌, [], length, drop}
+use Rattle.std.specs.Vec.Iter.{into_iter_items}
+use Rattle.ld_entry.specs.NumberedTexts.{known_texts}
+use Rattle.ld_engine.proofs.Rooted.{IsRooted}
+use Rattle.ld_engine.proofs.root.expand_root.Given as goal
+
+abbrev pub invariant-loop-line : goal.invariant-loop-line
+invariant-loop-line l = record {
+  way : l.way.items ≡ [];
+  left : into_iter_items l.rest ≡ drop l.number ((known_texts l.texts.known).lines l.root);
+  rooted : IsRooted l.most l.left (known_texts l.texts.known) l.root l.entries.items l.line_ends.items l.state l.number;
+}
+
+abbrev pub decreases-loop-line : goal.decreases-loop-line
+decreases-loop-line l = length (into_iter_items l.rest)
