@@ -1,5 +1,5 @@
 -- What learning a file changes of the known files.
-use Rattle.std.proofs.Common.{◌≡◌, ◌<◌, ◌++◌, ◌||◌, ℕ, zero, suc, Bool, false, cond, List, [], ◌∷◌, length, Option, Some, None, ap, refl, option_map, option_and_then, ◌∙◌, position, slice_get, inl, inr, arith, tests}
+use Rattle.std.proofs.Common.{◌≡◌, ◌≤◌, ◌<◌, ◌++◌, ◌||◌, ℕ, zero, suc, Bool, false, cond, List, [], ◌∷◌, length, Option, Some, None, ap, refl, subst, sym, option_map, option_and_then, ◌∙◌, position, slice_get, inl, inr, arith, tests}
 use Rattle.std.specs.List.{list_any}
 use Rattle.std.specs.Option.{option_map_or, option_or}
 use Rattle.std.proofs.lemmas.Bool.{cases_Bool}
@@ -9,9 +9,10 @@ use Rattle.std.proofs.lemmas.Map.Keys.{IsDistinct-push}
 use Rattle.ld_names.specs.declared.file.FileId.{FileId}
 use Rattle.ld_names.specs.Finding.{IsFileEquality}
 use Rattle.ld_names.specs.Standing.{Known, Text, same_file}
+use Rattle.ld_texts.specs.Editing.{AreKnown, files_in, lines_needed, refusal_of, text_of}
 use Rattle.ld_texts.specs.Known.{AreDistinct, file_at, files_of, id_of, is_part_at, is_part_file, lines_at, weight_of_text}
 use Rattle.ld_texts.specs.Laws.{Learns, ReadyStays}
-use Rattle.ld_texts.specs.Learning.{IsLearnt, Learn, change_of}
+use Rattle.ld_texts.specs.Learning.{Apply, IsLearnt, Learn, change_of}
 use Rattle.ld_texts.specs.declared.change.Turned.TheVariants.{Learnt}
 use Rattle.ld_texts.proofs.Places.{position-push}
 
@@ -102,4 +103,9 @@ ready_stays old new (Learn file text) keeps can = record {
   room = (omega (arith, can.room.0, keeps.room), keeps.places file.name can.room.1);
   apt = rw keeps.known can.apt;
   fits = rw (keeps.max_files, keeps.max_weight, keeps.known) can.fits;
+}
+ready_stays old new (Apply edit room) keeps can = record {
+  room = subst (λ known. lines_needed (text_of known) edit ≤ room) (sym keeps.known) can.room;
+  apt = subst (λ known. AreKnown known (files_in edit)) (sym keeps.known) can.apt;
+  fits = ap (λ known. refusal_of new.max_weight known edit) keeps.known ∙ ap (λ max_weight. refusal_of max_weight old.known edit) keeps.max_weight ∙ can.fits;
 }

@@ -1,4 +1,9 @@
+pub mod Changed
+pub mod Edited
 pub mod Files
+pub mod Header
 pub mod Index
 pub mod Learnt
+pub mod Placed
 pub mod Places
+pub mod Refused

@@ -34,7 +34,7 @@ module _ {X : Type 0} (test : X → Bool) where
       ∙ ap (λ (now : Option ℕ). option_or now (cond (test x) (Some (suc (length xs))) None)) (sym (position-cons test first xs))
 
 -- what is known by a test of files is what stands at the first place where it passes
-the_some : {X : Type 0} (x y : X) → Some x ≡ Some y → x ≡ y
+pub the_some : {X : Type 0} (x y : X) → Some x ≡ Some y → x ≡ y
 the_some x y same = ap (λ o. unwrap_or o x) same
 
 looked-step : (first : FileId × Text) (known : Known) (now : Option ℕ) → option_map (lines_at known) now ≡ option_map (lines_at (first ∷ known)) (option_map suc now)
@@ -53,7 +53,7 @@ map-is : (known : Known) (file : FileId) → known_map known file ≡ option_map
 unfolding known_map id_of
 map-is known file = looked (same_file file) known
 
-file_at-is : (known : Known) (id : ℕ) → file_at known id ≡ slice_get (files_of known) id
+pub file_at-is : (known : Known) (id : ℕ) → file_at known id ≡ slice_get (files_of known) id
 unfolding file_at
 file_at-is known id = sym (slice_get-map (λ entry. entry.0) known id)
 

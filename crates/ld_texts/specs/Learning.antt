@@ -1,17 +1,22 @@
--- Learning a file: when it is refused, and what it changes. The limits are this project's own.
-use Rattle.std.specs.Prelude.{◌≡◌, ◌≤◌, ◌+◌, ◌++◌, ◌==◌, ℕ, Bool, true, [], ◌∷◌, List, length, Option, Some, None, option_map, Result, Ok, Err, if◌then◌else◌, bytes_eq, nat_lt}
+-- Changes of the known files: a file is learnt or an edit is made. When learning is refused, what a change changes, and
+-- when it can be made. The limits are this project's own.
+use Rattle.std.specs.Prelude.{◌≡◌, ◌≤◌, ◌+◌, ◌++◌, ◌==◌, ℕ, Bool, true, [], ◌∷◌, List, length, Option, Some, None, Result, Ok, Err, if◌then◌else◌, bytes_eq, nat_lt, ⊤}
 use Rattle.std.specs.List.{list_any}
 use Rattle.std.specs.Option.{option_or}
 use Rattle.ld_names.specs.declared.file.FileId.{FileId}
 use Rattle.ld_names.specs.Standing.{Known, Text}
+use Rattle.ld_texts.specs.Editing.{AreKnown, edit_change, edited, files_in, lines_needed, refusal_of, text_of, turned}
 use Rattle.ld_texts.specs.Known.{file_at, id_of, lines_at, weight_of, weight_of_text}
 use Rattle.ld_texts.specs.declared.change.Change.{Change}
 use Rattle.ld_texts.specs.declared.change.LearnError.{LearnError}
 use Rattle.ld_texts.specs.declared.change.LearnError.TheVariants.{Full, Memory}
 use Rattle.ld_texts.specs.declared.change.Over.{Over}
 use Rattle.ld_texts.specs.declared.change.Over.TheVariants.{Files, Weight}
-use Rattle.ld_texts.specs.declared.change.Turned.{Turned}
 use Rattle.ld_texts.specs.declared.change.Turned.TheVariants.{Learnt}
+use Rattle.ld_texts.specs.declared.edit.Edit.{Edit}
+use Rattle.ld_texts.specs.declared.edit.EditRefusal.{EditRefusal}
+use Rattle.ld_texts.specs.declared.edit.PrepareError.{PrepareError}
+use Rattle.ld_texts.specs.declared.edit.PrepareError.TheVariants.{Refused, Memory as NoMemory}
 
 -- the known files, how many there may be and how much their texts may weigh; and the memory that is taken: how many
 -- more files there is room for, and which names have a place where their numbers are looked up
@@ -26,9 +31,16 @@ pub record Texts : Type 0 where
 abbrev pub has_place : Texts → List ℕ → Bool
 has_place texts name = list_any (bytes_eq name) texts.places
 
--- a change that is ready to be made: a file is learnt with its lines, or with None where it is absent
+-- a change that is ready to be made: a file is learnt with its lines, or with None where it is absent; or an edit is
+-- made, which brings memory for so many lines
 pub data Ready : Type 0 where
   Learn : FileId → Text → Ready
+  Apply : Edit → ℕ → Ready
+
+-- the edit that a change makes
+abbrev pub edit_in : Ready → Option Edit
+edit_in (Learn file text) = None
+edit_in (Apply edit room) = Some edit
 
 -- the limit on the number of files, where one more would pass it
 abbrev pub files_passed : ℕ → Known → Option Over
@@ -48,6 +60,18 @@ GivesUnless passed wanted (Ok given) = (given ≡ wanted) × (passed ≡ None)
 GivesUnless passed wanted (Err (Full over)) = passed ≡ Some over
 GivesUnless passed wanted (Err Memory) = passed ≡ None
 
+-- the edit is ready, or the refusal; memory is lacking only where none is
+abbrev pub PreparesUnless : Option EditRefusal → Edit → Result Ready PrepareError → Type 0
+PreparesUnless refusal edit (Ok ready) = (edit_in ready ≡ Some edit) × (refusal ≡ None)
+PreparesUnless refusal edit (Err (Refused why)) = refusal ≡ Some why
+PreparesUnless refusal edit (Err NoMemory) = refusal ≡ None
+
+-- what the edit turned, or the refusal; memory is lacking only where none is
+abbrev pub AppliesUnless : Option EditRefusal → Option Change → Result Change PrepareError → Type 0
+AppliesUnless refusal wanted (Ok change) = (wanted ≡ Some change) × (refusal ≡ None)
+AppliesUnless refusal wanted (Err (Refused why)) = refusal ≡ Some why
+AppliesUnless refusal wanted (Err NoMemory) = refusal ≡ None
+
 -- the files and the limits stay; no room is lost
 pub record KeepsTexts (old new : Texts) : Type 0 where
   pub known : new.known ≡ old.known
@@ -59,14 +83,17 @@ pub record KeepsTexts (old new : Texts) : Type 0 where
 -- the memory for the change is taken
 abbrev pub HasRoomFor : Texts → Ready → Type 0
 HasRoomFor texts (Learn file text) = (1 ≤ texts.room) × (has_place texts file.name ≡ true)
+HasRoomFor texts (Apply edit room) = lines_needed (text_of texts.known) edit ≤ room
 
--- the change is of no known file
+-- the file to be learnt is not known; those of an edit are
 abbrev pub IsApt : Known → Ready → Type 0
 IsApt known (Learn file text) = id_of known file ≡ None
+IsApt known (Apply edit room) = AreKnown known (files_in edit)
 
--- the change passes no limit
+-- the change is not refused
 abbrev pub IsWithinLimits : Texts → Ready → Type 0
 IsWithinLimits texts (Learn file text) = limit_passed texts.max_files texts.max_weight texts.known text ≡ None
+IsWithinLimits texts (Apply edit room) = refusal_of texts.max_weight texts.known edit ≡ None
 
 -- the change can be made, without memory
 pub record CanCommit (texts : Texts) (ready : Ready) : Type 0 where
@@ -77,14 +104,12 @@ pub record CanCommit (texts : Texts) (ready : Ready) : Type 0 where
 -- what is known after a change
 abbrev pub known_after : Known → Ready → Known
 known_after known (Learn file text) = known ++ (file, text) ∷ []
-
--- what turned a known file, by its number
-abbrev pub turned : Known → FileId → Turned → Option Change
-turned known file how = option_map (λ id. record { first = (record { 0 = id }, how); second = None }) (id_of known file)
+known_after known (Apply edit room) = edited known edit
 
 -- what a change turned, by the numbers of the files that are known after it
 abbrev pub change_of : Known → Ready → Option Change
 change_of known (Learn file text) = turned known file Learnt
+change_of known (Apply edit room) = edit_change known edit
 
 -- a learnt file has the next number, and stands there with its text
 pub record IsLearnt (old new : Known) (file : FileId) (text : Text) (id : ℕ) : Type 0 where
@@ -96,11 +121,14 @@ pub record IsLearnt (old new : Known) (file : FileId) (text : Text) (id : ℕ) :
 -- where a change learns a file, it is learnt with this number
 abbrev pub LearnsAt : Known → Known → Ready → ℕ → Type 0
 LearnsAt old new (Learn file text) id = IsLearnt old new file text id
+LearnsAt old new (Apply edit room) id = ⊤
 
 -- the file that a change learns
 abbrev pub learnt_file : Ready → Option FileId
 learnt_file (Learn file text) = Some file
+learnt_file (Apply edit room) = None
 
 -- the lines of the file that a change learns, where it is present
 abbrev pub learnt_lines : Ready → Text
 learnt_lines (Learn file text) = text
+learnt_lines (Apply edit room) = None

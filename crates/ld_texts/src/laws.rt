@@ -1,3 +1,4 @@
+ghost use Rattle.ld_texts.specs.EditLaws.{EditLaws};
 ghost use Rattle.ld_texts.specs.Laws.{LearningNumbers, LinesAgree, NumbersAgree, ReadyStays};
 
 use ld_names::file_laws;
@@ -25,3 +26,11 @@ pub fn learning_law()
 pub fn ready_law()
     ensures { ReadyStays }
 {}
+
+/// An edit of known files is that edit of the texts as they stand; it leaves every number and every
+/// other file; and what it weighs.
+pub fn edit_law()
+    ensures { EditLaws }
+{
+    file_laws();
+}

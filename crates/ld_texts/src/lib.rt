@@ -1,9 +1,14 @@
-//! The files that are known: their numbers, their lines, and the limits on them.
+//! The files that are known: their numbers, their lines, the limits on them, and edits.
 #![tactic(auto)]
 
 mod change;
+mod changing;
+mod edit;
+#[cfg(test)]
+mod edit_tests;
 mod ids;
 mod laws;
+mod preparing;
 mod ready;
 #[cfg(test)]
 mod tests;
@@ -11,6 +16,7 @@ mod text;
 mod texts;
 
 pub use change::{Change, LearnError, Over, Turned};
-pub use laws::{learning_law, line_law, number_law, ready_law};
+pub use edit::{Edit, EditRefusal, PrepareError};
+pub use laws::{edit_law, learning_law, line_law, number_law, ready_law};
 pub use ready::Ready;
 pub use texts::Texts;

@@ -17,14 +17,14 @@ use std::marker::Model;
 /// absent. A file's number is its place in this order.
 #[derive(Drop)]
 pub struct Texts {
-    alloc: Global,
-    files: Vec<(FileId, Option<KnownText>)>,
+    pub(crate) alloc: Global,
+    pub(crate) files: Vec<(FileId, Option<KnownText>)>,
     // By name; a name has its place here before its file is learnt. Ordered, since whoever writes
     // the files picks their names.
-    ids: BTreeMap<Name, Ids>,
-    max_files: u32,
-    max_weight: u64,
-    weight: u64,
+    pub(crate) ids: BTreeMap<Name, Ids>,
+    pub(crate) max_files: u32,
+    pub(crate) max_weight: u64,
+    pub(crate) weight: u64,
 }
 
 impl Model for Texts {
@@ -186,7 +186,7 @@ impl Texts {
         Ok(())
     }
 
-    /// Makes a change that is ready.
+    /// Makes a change that is ready. It takes no memory.
     pub fn commit(&mut self, ready: Ready) -> Change
         requires { CanCommit self.old ready }
         ensures known { self.new.known ≡ known_after self.old.known ready }
@@ -197,6 +197,7 @@ impl Texts {
     {
         match ready.prepared {
             Prepared::File { file, text } => self.learn(file, text),
+            Prepared::Edit { edit, room } => self.change(edit, room),
         }
     }
 
@@ -221,7 +222,7 @@ impl Texts {
     }
 
     #[tactic(auto, unfolding(crate::specs::Known::lines_at))]
-    fn text(&self, id: TextId) -> Option<&KnownText>
+    pub(crate) fn text(&self, id: TextId) -> Option<&KnownText>
         ensures lines { option_copied result ≡ lines_at self.now.known id.0 }
         ensures small { IfSome result (λ text. length text.now < 2 ^ 32) }
     {
