@@ -1,11 +1,10 @@
--- Complete runs, and runs of words that are no command.
+-- Complete runs, and runs that end with the usage line.
 use Rattle.std.proofs.Common.{◌≡◌, ℕ, List, [], ◌∷◌, Option, Some, None, IfSome, refl, ap, sym, subst, inl, inr}
 use Rattle.ld_io.specs.Shelf.{Files}
 use Rattle.ld_cmd.specs.declared.status.Status.{Status}
 use Rattle.ld_cmd.specs.declared.status.Status.TheVariants.{Done, Faulted, Usage, Input, ReadFault, WriteFault, Memory, Limit}
 use Rattle.ld_cmd.specs.Ending.{EndsAs, IsComplete, Takes}
-use Rattle.ld_cmd.specs.Output.{Output, commanded, output, usage}
-use Rattle.ld_cmd.specs.Words.{command_of, usage_line}
+use Rattle.ld_cmd.specs.Output.{Output, usage, usage_line}
 
 -- the status of a run over files that are told
 abbrev pub EndsTold : Status → (Files → Output) → Option Files → Type 0
@@ -31,15 +30,14 @@ complete_where_told status wanted None before after ends takes read written = tt
 complete_where_told status wanted (Some files) None after ends takes read written = tt
 complete_where_told status wanted (Some files) (Some before) after ends takes read written = is_complete status (wanted files) before after ends takes read written
 
--- the output of words that are no command
-usage_output : (words : List (List ℕ)) → None ≡ command_of words → (files : Files) → output words files ≡ usage
-unfolding output
-usage_output words is files = ap (λ command. commanded command files) (sym is)
+-- the output is the usage line
+abbrev pub UsageTold : (Files → Output) → Option Files → Type 0
+UsageTold wanted files = IfSome files (λ f. usage ≡ wanted f)
 
-pub usage_ends : (status : Status) (words : List (List ℕ)) (files : Option Files) → None ≡ command_of words → EndsAs status Usage → EndsTold status (output words) files
-usage_ends status words None is ends = tt
-usage_ends status words (Some files) is ends = subst (λ out. EndsAs status out.status) (sym (usage_output words is files)) ends
+pub usage_ends : (status : Status) (wanted : Files → Output) (files : Option Files) → UsageTold wanted files → EndsAs status Usage → EndsTold status wanted files
+usage_ends status wanted None is ends = tt
+usage_ends status wanted (Some files) is ends = subst (λ out. EndsAs status out.status) is ends
 
-pub usage_takes : (status : Status) (words : List (List ℕ)) (files : Option Files) (before after : Option (List ℕ)) → None ≡ command_of words → IfSome before (λ b. Takes status (usage_line ∷ []) b after) → TakesTold status (output words) files before after
-usage_takes status words None before after is takes = tt
-usage_takes status words (Some files) before after is takes = subst (λ out. IfSome before (λ b. Takes status out.pieces b after)) (sym (usage_output words is files)) takes
+pub usage_takes : (status : Status) (wanted : Files → Output) (files : Option Files) (before after : Option (List ℕ)) → UsageTold wanted files → IfSome before (λ b. Takes status (usage_line ∷ []) b after) → TakesTold status wanted files before after
+usage_takes status wanted None before after is takes = tt
+usage_takes status wanted (Some files) before after is takes = subst (λ out. IfSome before (λ b. Takes status out.pieces b after)) is takes

@@ -4,7 +4,7 @@ use Rattle.std.specs.List.{concat}
 use Rattle.ld_cmd.specs.declared.status.Status.{Status}
 use Rattle.ld_cmd.specs.declared.status.Status.TheVariants.{Done, Faulted, Usage, Input, ReadFault, WriteFault, Memory, Limit}
 use Rattle.ld_cmd.specs.Output.{Output}
-use Rattle.ld_cmd.specs.Words.{Command, Faces}
+use Rattle.ld_words.specs.Words.{Intent}
 
 -- what stops a run before its end
 pub data Interruption : Type 0 where
@@ -72,15 +72,10 @@ NothingAfter (Some Room) before after = after ≡ Some before
 abbrev pub TakesNothing : Status → List ℕ → Option (List ℕ) → Type 0
 TakesNothing status before after = NothingAfter (interruption_of status) before after
 
--- the output of this command is one piece
-abbrev pub HasOnePiece : Option Command → Type 0
-HasOnePiece None = Unit {0}
-HasOnePiece (Some (Faces file)) = Unit {0}
-
 -- where no command is named the status is Usage, unless writing or memory stopped the run; elsewhere it is not
-abbrev pub UsageIsExact : Option Command → Status → Type 0
+abbrev pub UsageIsExact : Option Intent → Status → Type 0
 UsageIsExact None status = EndsAs status Usage × (status ≢ ReadFault)
-UsageIsExact (Some command) status = status ≢ Usage
+UsageIsExact (Some intent) status = status ≢ Usage
 
 -- the exit status of the program
 abbrev pub number_of : Status → ℕ

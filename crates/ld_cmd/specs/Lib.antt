@@ -1,7 +1,5 @@
-pub mod Faces
-pub mod Chain
 pub mod Ending
-pub mod Output
 pub mod Folders
-pub mod Shown
-pub mod Words
+pub mod Made
+pub mod Output
+pub mod Querying

@@ -1,18 +1,30 @@
 -- What a run writes and how it ends (this project's own).
-use Rattle.std.specs.Prelude.{ℕ, nat_lt, List, [], ◌∷◌, ◌++◌, length, Option, Some, None, Result, Ok, Err, codes, decimal, if◌then◌else◌, ◌==◌, ◌||◌, Bool}
-use Rattle.std.specs.List.{list_any}
-use Rattle.ld_io.specs.Shelf as shelf
+use Rattle.std.specs.Prelude.{ℕ, Bool, true, false, nat_lt, List, [], ◌∷◌, ◌++◌, length, Option, Some, None, Result, Ok, Err, codes, decimal, if◌then◌else◌, ◌==◌, ◌||◌}
+use Rattle.std.specs.List.{flat_map, list_any}
+use Rattle.ld_io.specs.Shelf.{Files}
 use Rattle.ld_io.specs.declared.shelf.Place.TheVariants.{Work}
 use Rattle.ld_names.specs.Normal.{normal_of}
+use Rattle.ld_names.specs.Standing.{Known}
+use Rattle.ld_names.specs.declared.file.FileId.{FileId}
 use Rattle.ld_names.specs.declared.name.NameError.{NameError}
-use Rattle.ld_line.specs.Cut.{lines_of}
-use Rattle.ld_cmd.specs.declared.status.Status.{Status}
-use Rattle.ld_cmd.specs.declared.status.Status.TheVariants.{Done, Faulted, Usage, Input, Limit}
-use Rattle.ld_texts.specs.Learning.{limit_passed}
+use Rattle.ld_mpd.specs.Blocks.{text_blocks}
 use Rattle.ld_texts.specs.declared.change.Over.{Over}
-use Rattle.ld_texts.specs.declared.change.Over.TheVariants.{Files, Weight}
-use Rattle.ld_cmd.specs.Faces.{all_from, answer_of}
-use Rattle.ld_cmd.specs.Words.{Command, Faces, command_of, usage_line}
+use Rattle.ld_texts.specs.declared.change.Over.TheVariants as over
+use Rattle.ld_colour.specs.Colour.{colour_of}
+use Rattle.ld_colour.specs.Table.{Counting, table_in}
+use Rattle.ld_engine.specs.Learning.{Learnt, Stop, TooBig, Full, learning}
+use Rattle.ld_engine.specs.Loading.{load, main_of}
+use Rattle.ld_engine.specs.declared.asking.Answer.{Answer}
+use Rattle.ld_engine.specs.declared.limits.Limits.{Limits}
+use Rattle.ld_report.specs.Entries.{entry_text, fault_text}
+use Rattle.ld_report.specs.Pieces.{file_text}
+use Rattle.ld_words.specs.Words.{Intent, Options, Task, Show, Replay, Generate, intent_of}
+use Rattle.ld_words.specs.declared.listing.Listing.TheVariants as listing
+use Rattle.ld_cmd.specs.declared.answer.Shown.{Shown}
+use Rattle.ld_cmd.specs.declared.answer.Shown.TheVariants.{Faces}
+use Rattle.ld_cmd.specs.declared.status.Status.{Status}
+use Rattle.ld_cmd.specs.declared.status.Status.TheVariants as status
+use Rattle.ld_cmd.specs.Querying.{Queried, Stops, NoRoot, Faulted, Answered, queried}
 
 pub record Output : Type 0 where
   -- the pieces in which the bytes are written
@@ -22,9 +34,59 @@ pub record Output : Type 0 where
 abbrev pub one_piece : List ℕ → Status → Output
 one_piece text status = record { pieces = text ∷ []; status = status }
 
+-- goes on with what there is, unless the output is decided
+abbrev pub and_then : {A : Type 0} → Result A Output → (A → Output) → Output
+and_then (Ok value) further = further value
+and_then (Err output) further = output
+
+-- ---- 1. Words that are no command, and commands that are not answered yet.
+
+abbrev pub usage_line : List ℕ
+usage_line = codes "usage: ldraw (faces|steps|parts|inline|check) FILE | replay FILE SCRIPT | gen N\n"
+
+abbrev pub usage : Output
+usage = one_piece usage_line status.Usage
+
+abbrev pub is_answered : Task → Bool
+is_answered (Show listing.Faces file) = true
+is_answered task = false
+
+-- what the words ask for, if they are a command that is answered
+abbrev pub answered_intent : Option Intent → Option Intent
+answered_intent (Some intent) = if is_answered intent.task then Some intent else None
+answered_intent None = None
+
+abbrev pub request_of : List (List ℕ) → Option Intent
+request_of words = answered_intent (intent_of words)
+
+-- ---- 2. Files that the words name.
+
 -- the most bytes that a file may have
 abbrev pub file_bytes : ℕ
 file_bytes = 33554432
+
+-- the bytes of a file by its word
+abbrev pub input : List ℕ → Option (List ℕ) → Result (List ℕ) Output
+input word None = Err (one_piece (codes "absent " ++ word ++ codes "\n") status.Input)
+input word (Some bytes) =
+    if nat_lt file_bytes (length bytes) then Err (one_piece (codes "toobig " ++ word ++ codes "\n") status.Limit) else Ok bytes
+
+-- ---- 3. The colour file.
+
+abbrev pub table_by : Result Counting ℕ → Result Counting Output
+table_by (Ok table) = Ok table
+table_by (Err number) = Err (one_piece (codes "badcolour " ++ decimal number ++ codes "\n") status.Input)
+
+abbrev pub table_from : Result (List ℕ) Output → Result Counting Output
+table_from (Ok bytes) = table_by (table_in bytes)
+table_from (Err output) = Err output
+
+-- the colours of the file that an option names, if it does
+abbrev pub table_of : Option (List ℕ) → Files → Result Counting Output
+table_of None files = Ok (λ code. None)
+table_of (Some word) files = table_from (input word (files Work word))
+
+-- ---- 4. The model.
 
 -- `/` or `\`
 abbrev pub is_slash : ℕ → Bool
@@ -44,43 +106,64 @@ name_or_default (Err e) = codes "model.ldr"
 abbrev pub own_name : List ℕ → List ℕ
 own_name word = name_or_default (normal_of (after_slash word))
 
-abbrev pub answered : Result (List ℕ) (List ℕ) → Output
-answered (Ok text) = one_piece text Done
-answered (Err fault) = one_piece fault Faulted
+-- how much may be known and shown
+abbrev pub limits_of : Options → Limits
+limits_of options =
+    record { entries = options.max_entries; depth = options.max_depth; cache = options.cache; texts = 65535; file_bytes = file_bytes; total_weight = 268435456 }
 
 -- the line about a limit, with what was kept before it
 abbrev pub over_text : Over → List ℕ
-over_text (Files kept) = codes "full files " ++ decimal kept ++ codes "\n"
-over_text (Weight kept) = codes "full weight " ++ decimal kept ++ codes "\n"
+over_text (over.Files kept) = codes "full files " ++ decimal kept ++ codes "\n"
+over_text (over.Weight kept) = codes "full weight " ++ decimal kept ++ codes "\n"
 
--- how many files may be known, and how much their texts may weigh
-abbrev pub max_files : ℕ
-max_files = 65535
+-- the texts that are known once a model is loaded
+abbrev pub loaded_by : Result Known Over → Result Known Output
+loaded_by (Ok known) = Ok known
+loaded_by (Err passed) = Err (one_piece (over_text passed) status.Limit)
 
-abbrev pub max_weight : ℕ
-max_weight = 268435456
+-- ---- 5. Queries.
 
--- the faces of a model by its name and its lines, where it passes no limit
-abbrev pub model_output : List ℕ → List (List ℕ) → Option Over → Output
-model_output own lines None = answered (answer_of own (all_from 1 lines))
-model_output own lines (Some over) = one_piece (over_text over) Limit
+-- what is shown of an answer, by the colours that are defined and the files that are known
+abbrev pub shown_text : Shown → Counting → Known → Answer → List ℕ
+shown_text Faces table known answer = flat_map (entry_text known table) answer.entries
 
--- the faces of a text
-abbrev pub faces_of : List ℕ → List ℕ → Output
-faces_of word bytes = model_output (own_name word) (lines_of bytes) (limit_passed max_files max_weight [] (Some (lines_of bytes)))
+abbrev pub stop_text : Stop → List ℕ
+stop_text (TooBig file) = codes "toobig " ++ file_text file ++ codes "\n"
+stop_text (Full passed) = over_text passed
 
--- the faces of the file that a word names
-abbrev pub faces_output : List ℕ → Option (List ℕ) → Output
-faces_output word None = one_piece (codes "absent " ++ word ++ codes "\n") Input
-faces_output word (Some bytes) = if nat_lt file_bytes (length bytes) then one_piece (codes "toobig " ++ word ++ codes "\n") Limit else faces_of word bytes
+-- the output of a query; the main model is there, so that its root never lacks
+abbrev pub queried_output : (Known → Answer → List ℕ) → Known → Queried → Output
+queried_output show known (Stops stop) = one_piece (stop_text stop) status.Limit
+queried_output show known NoRoot = one_piece [] status.Done
+queried_output show known (Faulted fault) = one_piece (fault_text known fault) status.Faulted
+queried_output show known (Answered answer) = one_piece (show known answer) status.Done
 
-abbrev pub usage : Output
-usage = one_piece usage_line Usage
+-- the output of the query of a model's main model, once its texts are known
+abbrev pub main_output : (Known → Answer → List ℕ) → Options → Files → Option FileId → Known → Output
+main_output show options files None known = one_piece [] status.Done
+main_output show options files (Some main) known =
+    let learnt = learning (limits_of options) files main known in queried_output show learnt.known (queried (limits_of options) files main (colour_of options.main) learnt)
 
-abbrev pub commanded : Option Command → shelf.Files → Output
+-- the output of a model by its name and its bytes
+abbrev pub model_output : (Known → Answer → List ℕ) → Options → Files → List ℕ → List ℕ → Output
+model_output show options files own bytes =
+    and_then (loaded_by (load (limits_of options) [] (text_blocks own bytes))) (main_output show options files (main_of (text_blocks own bytes)))
+
+-- the output of a command that shows a file
+abbrev pub shown_output : Shown → List ℕ → Options → Files → Output
+shown_output what file options files =
+    and_then (input file (files Work file)) (λ bytes. and_then (table_of options.colours files) (λ table. model_output (shown_text what table) options files (own_name file) bytes))
+
+-- ---- The whole.
+
+abbrev pub task_output : Task → Options → Files → Output
+task_output (Show listing.Faces file) options files = shown_output Faces file options files
+task_output task options files = usage
+
+abbrev pub commanded : Option Intent → Files → Output
 commanded None files = usage
-commanded (Some (Faces file)) files = faces_output file (files Work file)
+commanded (Some intent) files = task_output intent.task intent.options files
 
 -- what words give over the files of a shelf
-unfoldable pub output : List (List ℕ) → shelf.Files → Output
-output words files = commanded (command_of words) files
+unfoldable pub output : List (List ℕ) → Files → Output
+output words files = commanded (request_of words) files

@@ -1,4 +1,6 @@
+ghost use Rattle.std.specs.Prelude.{◌≢◌};
 ghost use Rattle.ld_cmd.specs.Ending.{IsWhole};
+ghost use Rattle.ld_cmd.specs.declared.status.Status.TheVariants.{Usage};
 
 use crate::status::Status;
 use std::alloc::{AllocError, AllocFailed};
@@ -9,11 +11,16 @@ pub(crate) struct Made {
     pub text: Vec<u8>,
     pub status: Status,
     ghost whole: { IsWhole status },
+    ghost answers: { status ≢ Usage },
 }
 
-// Why nothing is written.
-#[derive(Clone, Copy, Debug, PartialEq, Eq)]
+// Why a run does not go on to its answer.
+#[derive(Debug, Drop)]
 pub(crate) enum Stop {
+    // The words are no command.
+    Usage,
+    // What is to be written is decided already.
+    Decided(Made),
     ReadFault,
     Memory,
 }

@@ -1,18 +1,19 @@
 //! The command `ldraw`: answers about LDraw models, read from files and written to standard output.
 #![tactic(auto)]
 
-mod entry;
-mod faces;
-mod fault;
+mod answer;
 mod folders;
+mod inputs;
+mod lines;
 mod made;
 mod make;
+mod model;
 mod os;
+mod query;
 mod run;
 mod status;
 #[cfg(test)]
 mod tests;
-mod words;
 
 pub use run::run;
 pub use status::Status;

@@ -1,149 +1,91 @@
-ghost use Rattle.std.specs.Prelude.{◌≡◌, ◌≢◌, ◌≤◌, Err, ℕ, List, Option, Result, ◌++◌, IfOk, IfSome, codes};
+// The output of the words.
+ghost use Rattle.std.specs.Prelude.{◌≡◌, ◌≢◌, ◌≤◌, Err, IsSome, List, ℕ, Option, Result, IfOk, IfSome, None, Some, codes, false, map, string_bytes};
 ghost use Rattle.ld_io.specs.Faults.{HasRisen};
 ghost use Rattle.ld_names.specs.Normal.{GivesName};
 ghost use Rattle.ld_names.specs.declared.name.NameError.{NameError};
-ghost use Rattle.ld_cmd.specs.Ending.{IsWhole};
-ghost use Rattle.ld_cmd.specs.Output.{after_slash, answered, faces_of, faces_output, name_or_default, one_piece, over_text, own_name};
-ghost use Rattle.ld_cmd.specs.Shown.{IsContent, output_of, shown};
+ghost use Rattle.ld_engine.specs.Limits.{bad_limit};
+ghost use Rattle.ld_words.specs.Shown.{intent_shown, options_shown};
+ghost use Rattle.ld_words.specs.Words.{IsBounded};
+ghost use Rattle.ld_cmd.specs.Made.{IsFaulty, Makes};
+ghost use Rattle.ld_cmd.specs.Output.{after_slash, answered_intent, commanded, limits_of, name_or_default, output, own_name, request_of, shown_output};
 
-use crate::faces::{Faces, print_faces};
+use crate::inputs::{read_input, read_table};
+use crate::answer::Shown;
 use crate::made::{Made, Stop};
-use crate::status::Status;
-use itoa::Buffer;
-use ld_io::{FetchError, Fetched, Place, Shelf};
-use ld_line::lines_of;
-use ld_names::{FileId, Folder, Name, NameError, normal};
-use ld_texts::{LearnError, Over, Texts};
+use crate::model::show_model;
+use ld_io::Shelf;
+use ld_names::{Name, NameError, normal};
+use ld_words::{Listing, Options, Request, Task, given_words, is_command, read_request};
 use std::alloc::{AllocError, Global};
 
-// The most bytes that a file may have.
-const FILE_BYTES: u64 = 33_554_432;
-
-// The most files that may be known.
-const TEXTS: u32 = 65_535;
-
-// The most that their texts may weigh, by the bytes of their lines and 32 more for each line.
-const TOTAL_WEIGHT: u64 = 268_435_456;
-
-// What is at a path.
-#[derive(Debug, Drop)]
-enum Content {
-    Bytes(Vec<u8>),
-    Absent,
-    TooBig,
-}
-
-// The faces of the file that a word names.
-pub(crate) fn make_output<S: Shelf>(alloc: Global, word: &[u8], shelf: &mut S) -> Result<Made, Stop>
-    ensures told { IfSome (S.files shelf.old) (λ files. IfOk result (λ m. output_of m ≡ faces_output word.now (files Place.Work word.now))) }
-    ensures no_usage { IfOk result (λ m. m.status ≢ Status.Usage) }
+// What the words give.
+#[tactic(auto, unfolding(crate::specs::Output::output))]
+pub(crate) fn make_output<S: Shelf>(
+    alloc: Global,
+    words: &[String],
+    shelf: &mut S,
+) -> Result<Made, Stop>
+    ensures told { IfSome (S.files shelf.old) (λ files. Makes (output (map string_bytes words.now) files) result) }
+    ensures faulty { request_of (map string_bytes words.now) ≡ None → IsFaulty result }
+    ensures command { IsSome (request_of (map string_bytes words.now)) → result ≢ Err Stop.Usage }
     ensures cause { result ≡ Err Stop.ReadFault → HasRisen (S.faults shelf.old) (S.faults shelf.new) }
     ensures same { S.files shelf.new ≡ S.files shelf.old }
     ensures never_falls { S.faults shelf.old ≤ S.faults shelf.new }
 {
-    let content = read_file(alloc, word, shelf)?;
-    make_answer(alloc, word, content)
+    if !is_command(words) {
+        return Err(Stop::Usage);
+    }
+    let given = given_words(alloc, words)?;
+    let request = read_request(alloc, words, given.as_slice())?;
+    make_request(alloc, &request, shelf)
 }
 
-fn read_file<S: Shelf>(alloc: Global, word: &[u8], shelf: &mut S) -> Result<Content, Stop>
-    ensures told { IfSome (S.files shelf.old) (λ files. IfOk result (λ content. IsContent (files Place.Work word.now) content)) }
+#[tactic(auto, using(crate::proofs::Bounds::limits_are_good))]
+fn make_request<S: Shelf>(
+    alloc: Global,
+    request: &Request,
+    shelf: &mut S,
+) -> Result<Made, Stop>
+    requires bounds { IsBounded (intent_shown request.now) }
+    ensures told { IfSome (S.files shelf.old) (λ files. Makes (commanded (answered_intent (Some (intent_shown request.now))) files) result) }
+    ensures faulty { answered_intent (Some (intent_shown request.now)) ≡ None → IsFaulty result }
+    ensures command { IsSome (answered_intent (Some (intent_shown request.now))) → result ≢ Err Stop.Usage }
     ensures cause { result ≡ Err Stop.ReadFault → HasRisen (S.faults shelf.old) (S.faults shelf.new) }
     ensures same { S.files shelf.new ≡ S.files shelf.old }
     ensures never_falls { S.faults shelf.old ≤ S.faults shelf.new }
 {
-    let mut bytes = Vec::new(alloc);
-    match shelf.fetch(Place::Work, word, FILE_BYTES, &mut bytes) {
-        Ok(Fetched::Found) => Ok(Content::Bytes(bytes)),
-        Ok(Fetched::Absent) => Ok(Content::Absent),
-        Err(FetchError::TooBig) => Ok(Content::TooBig),
-        Err(FetchError::Failed) => Err(Stop::ReadFault),
-        Err(FetchError::Memory) => Err(Stop::Memory),
+    match request.task {
+        Task::Show(Listing::Faces, file) => show_file(alloc, Shown::Faces, file, &request.options, shelf),
+        _ => Err(Stop::Usage),
     }
 }
 
-fn make_answer(alloc: Global, word: &[u8], content: Content) -> Result<Made, Stop>
-    ensures made { (found : Option (List ℕ)) → IsContent found content → IfOk result (λ m. output_of m ≡ faces_output word.now found) }
-    ensures no_usage { IfOk result (λ m. m.status ≢ Status.Usage) }
-    ensures no_fault { result ≢ Err Stop.ReadFault }
+// What a file shows.
+fn show_file<S: Shelf>(
+    alloc: Global,
+    what: Shown,
+    file: &str,
+    options: &Options,
+    shelf: &mut S,
+) -> Result<Made, Stop>
+    requires bounds { bad_limit (limits_of (options_shown options.now)) ≡ None }
+    ensures told { IfSome (S.files shelf.old) (λ files. Makes (shown_output what file.now (options_shown options.now) files) result) }
+    ensures goes_on { result ≢ Err Stop.Usage }
+    ensures cause { result ≡ Err Stop.ReadFault → HasRisen (S.faults shelf.old) (S.faults shelf.new) }
+    ensures same { S.files shelf.new ≡ S.files shelf.old }
+    ensures never_falls { S.faults shelf.old ≤ S.faults shelf.new }
 {
-    match content {
-        Content::Bytes(bytes) => make_faces(alloc, word, bytes.as_slice()),
-        Content::Absent => about_file(alloc, b"absent ", word, Status::Input),
-        Content::TooBig => about_file(alloc, b"toobig ", word, Status::Limit),
-    }
-}
-
-fn make_faces(alloc: Global, word: &[u8], bytes: &[u8]) -> Result<Made, Stop>
-    ensures made { IfOk result (λ m. output_of m ≡ faces_of word.now bytes.now) }
-    ensures no_usage { IfOk result (λ m. m.status ≢ Status.Usage) }
-    ensures no_fault { result ≢ Err Stop.ReadFault }
-{
-    let file = FileId {
-        folder: Folder::Model,
-        name: own_name(alloc, word)?,
+    let bytes = match read_input(alloc, file.as_bytes(), shelf) {
+        Ok(bytes) => bytes,
+        Err(stop) => return Err(stop),
     };
-    let lines = lines_of(alloc, bytes)?;
-    let mut texts = Texts::new(alloc, TEXTS, TOTAL_WEIGHT);
-    match texts.prepare_file(&file, Some(lines)) {
-        Ok(ready) => {
-            let change = texts.commit(ready);
-            let faces = print_faces(alloc, file.name.bytes(), &texts, change.first.0)?;
-            Ok(make_whole(faces))
-        }
-        Err(LearnError::Full(over)) => make_full(alloc, over),
-        Err(LearnError::Memory) => Err(Stop::Memory),
-    }
-}
-
-fn make_whole(faces: Faces) -> Made
-    ensures made { output_of result ≡ answered (shown faces) }
-    ensures no_usage { result.status ≢ Status.Usage }
-{
-    match faces {
-        Faces::Shown(text) => Made {
-            text,
-            status: Status::Done,
-        },
-        Faces::Fault(text) => Made {
-            text,
-            status: Status::Faulted,
-        },
-    }
-}
-
-// The line about a limit that is passed, with what was kept before it.
-fn make_full(alloc: Global, over: Over) -> Result<Made, Stop>
-    ensures made { IfOk result (λ m. output_of m ≡ one_piece (over_text over) Status.Limit) }
-    ensures no_usage { IfOk result (λ m. m.status ≢ Status.Usage) }
-    ensures no_fault { result ≢ Err Stop.ReadFault }
-{
-    let (what, kept) = match over {
-        Over::Files(kept) => (b"full files ".as_slice(), u64::from(kept)),
-        Over::Weight(kept) => (b"full weight ".as_slice(), kept),
+    let table = match read_table(alloc, options.colours, shelf) {
+        Ok(table) => table,
+        Err(stop) => return Err(stop),
     };
-    let mut text = Vec::from_slice(alloc, what)?;
-    text.extend_from_slice(Buffer::new().format(kept).as_bytes())?;
-    text.push(b'\n')?;
-    Ok(Made {
-        text,
-        status: Status::Limit,
-    })
+    let own = own_name(alloc, file.as_bytes())?;
+    show_model(alloc, what, options, &own, bytes.as_slice(), &table, shelf)
 }
-
-// A line about the file that a word names.
-fn about_file(alloc: Global, what: &[u8], word: &[u8], status: Status) -> Result<Made, Stop>
-    requires { IsWhole status }
-    ensures made { IfOk result (λ m. output_of m ≡ one_piece (what.now ++ word.now ++ codes "\n") status) }
-    ensures status { IfOk result (λ m. m.status ≡ status) }
-    ensures no_fault { result ≢ Err Stop.ReadFault }
-{
-    let mut text = Vec::with_capacity(alloc, word.len())?;
-    text.extend_from_slice(what)?;
-    text.extend_from_slice(word)?;
-    text.push(b'\n')?;
-    Ok(Made { text, status })
-}
-
 // The main model's own name, by the word that names its file.
 fn own_name(alloc: Global, word: &[u8]) -> Result<Name, AllocError>
     ensures { IfOk result (λ name. name ≡ own_name word.now) }

@@ -1,19 +1,19 @@
 ghost use Rattle.std.specs.Prelude.{◌≡◌, ◌≢◌, ◌≤◌, ◌∷◌, [], IfSome, None, Some, is_some, map, string_bytes};
 ghost use Rattle.ld_io.specs.Faults.{HasRisen};
-ghost use Rattle.ld_cmd.specs.Ending.{EndsAs, HasOnePiece, IsComplete, IsWhole, StandsInFront, Takes, TakesNothing, UsageIsExact};
-ghost use Rattle.ld_cmd.specs.Output.{faces_output, output};
-ghost use Rattle.ld_cmd.specs.Words.{command_of, usage_line};
+ghost use Rattle.ld_cmd.specs.Ending.{EndsAs, IsComplete, IsWhole, StandsInFront, Takes, TakesNothing, UsageIsExact};
+ghost use Rattle.ld_cmd.specs.Output.{output, request_of, usage_line};
 
 use crate::made::Stop;
 use crate::make::make_output;
 use crate::status::Status;
-use crate::words::{USAGE, faces_file};
-use ld_io::{Place, PutError, Shelf, Sink};
+use ld_io::{PutError, Shelf, Sink};
 use std::alloc::Global;
+
+const USAGE: &[u8] =
+    b"usage: ldraw (faces|steps|parts|inline|check) FILE | replay FILE SCRIPT | gen N\n";
 
 /// Runs the command that the words name (the words after the program's name): reads its files from
 /// the shelf, and writes what it gives into the sink, piece by piece. An empty piece is not put.
-#[tactic(auto, unfolding(crate::specs::Output::output))]
 pub fn run<S: Shelf, K: Sink>(alloc: Global, words: &[String], shelf: &mut S, out: &mut K) -> Status
     // Over told files, the status is that of the output, and where the sink tells too, what it
     // took is of the output's pieces.
@@ -28,50 +28,27 @@ pub fn run<S: Shelf, K: Sink>(alloc: Global, words: &[String], shelf: &mut S, ou
         (λ before. IsComplete result (output (map string_bytes words.now) files) before (K.taken out.new))) }
 
     // Over every shelf, words outside the grammar and no others give the usage line.
-    ensures usage { UsageIsExact (command_of (map string_bytes words.now)) result }
-    ensures usage_taken { command_of (map string_bytes words.now) ≡ None → IfSome (K.taken out.old)
+    ensures usage { UsageIsExact (request_of (map string_bytes words.now)) result }
+    ensures usage_taken { request_of (map string_bytes words.now) ≡ None → IfSome (K.taken out.old)
         (λ before. Takes result (usage_line ∷ []) before (K.taken out.new)) }
 
     ensures read_cause { result ≡ Status.ReadFault → HasRisen (S.faults shelf.old) (S.faults shelf.new) }
     ensures write_cause { result ≡ Status.WriteFault → HasRisen (K.faults out.old) (K.faults out.new) }
-    ensures nothing { HasOnePiece (command_of (map string_bytes words.now)) → IfSome (K.taken out.old)
-        (λ before. TakesNothing result before (K.taken out.new)) }
-    ensures in_front { IfSome (K.taken out.old) (λ before. StandsInFront before (K.taken out.new)) }
-
-    ensures same_files { S.files shelf.new ≡ S.files shelf.old }
-    ensures told_same { is_some (K.taken out.new) ≡ is_some (K.taken out.old) }
-    ensures shelf_faults { S.faults shelf.old ≤ S.faults shelf.new }
-    ensures sink_faults { K.faults out.old ≤ K.faults out.new }
-{
-    match faces_file(words) {
-        Some(file) => show_faces(alloc, file, shelf, out),
-        None => put_last(out, USAGE, Status::Usage),
-    }
-}
-
-// Shows the faces of the file that a word names.
-fn show_faces<S: Shelf, K: Sink>(alloc: Global, word: &[u8], shelf: &mut S, out: &mut K) -> Status
-    ensures status { IfSome (S.files shelf.old)
-        (λ files. EndsAs result (faces_output word.now (files Place.Work word.now)).status) }
-    ensures taken { IfSome (S.files shelf.old) (λ files. IfSome (K.taken out.old)
-        (λ before. Takes result (faces_output word.now (files Place.Work word.now)).pieces before (K.taken out.new))) }
-    ensures no_usage { result ≢ Status.Usage }
-    ensures read_cause { result ≡ Status.ReadFault → HasRisen (S.faults shelf.old) (S.faults shelf.new) }
-    ensures write_cause { result ≡ Status.WriteFault → HasRisen (K.faults out.old) (K.faults out.new) }
     ensures nothing { IfSome (K.taken out.old) (λ before. TakesNothing result before (K.taken out.new)) }
     ensures in_front { IfSome (K.taken out.old) (λ before. StandsInFront before (K.taken out.new)) }
+
     ensures same_files { S.files shelf.new ≡ S.files shelf.old }
     ensures told_same { is_some (K.taken out.new) ≡ is_some (K.taken out.old) }
     ensures shelf_faults { S.faults shelf.old ≤ S.faults shelf.new }
     ensures sink_faults { K.faults out.old ≤ K.faults out.new }
 {
-    match make_output(alloc, word, shelf) {
-        Ok(made) => put_last(out, made.text.as_slice(), made.status),
+    match make_output(alloc, words, shelf) {
+        Ok(made) | Err(Stop::Decided(made)) => put_last(out, made.text.as_slice(), made.status),
+        Err(Stop::Usage) => put_last(out, USAGE, Status::Usage),
         Err(Stop::ReadFault) => Status::ReadFault,
         Err(Stop::Memory) => Status::Memory,
     }
 }
-
 // Puts the last piece, unless it is empty, and ends with this status.
 fn put_last<K: Sink>(out: &mut K, piece: &[u8], status: Status) -> Status
     requires { IsWhole status }

@@ -1,5 +1,5 @@
 -- The words of the command line: a command word, its positional words, and options with their values (this project's own).
-use Rattle.std.specs.Prelude.{ℕ, Bool, false, true, List, [], ◌∷◌, Option, Some, None, ◌==◌, ◌&&◌, not, codes, if◌then◌else◌, nat_le, option_map, option_and_then, unwrap_or, is_some}
+use Rattle.std.specs.Prelude.{◌≤◌, ℕ, Bool, false, true, List, [], ◌∷◌, Option, Some, None, ◌==◌, ◌&&◌, not, codes, if◌then◌else◌, nat_le, option_map, option_and_then, unwrap_or, is_some}
 use Rattle.std.specs.List.{list_any}
 use Rattle.std.specs.Str.{bytes_eq}
 use Rattle.ld_line.specs.Colour.{colour_word}
@@ -111,6 +111,23 @@ pub data Task : Type 0 where
 pub record Intent : Type 0 where
   pub task : Task
   pub options : Options
+
+-- within these bounds
+abbrev pub IsBetween : ℕ → ℕ → ℕ → Type 0
+IsBetween low high number = (low ≤ number) × (number ≤ high)
+
+abbrev pub IsBoundedTask : Task → Type 0
+IsBoundedTask (Generate count) = IsBetween 1 100000 count
+IsBoundedTask (Show what file) = Unit {0}
+IsBoundedTask (Replay file script) = Unit {0}
+
+-- the numbers of the options and of `gen` are within their bounds
+pub record IsBounded (intent : Intent) : Type 0 where
+  pub task : IsBoundedTask intent.task
+  pub workers : IsBetween 1 16 intent.options.workers
+  pub max_entries : IsBetween 1 4000000 intent.options.max_entries
+  pub max_depth : IsBetween 1 64 intent.options.max_depth
+  pub cache : IsBetween 0 8000000 intent.options.cache
 
 abbrev pub listing_of : Word → Option Listing
 listing_of word =

@@ -1,9 +1,9 @@
-ghost use Rattle.std.specs.Prelude.{◌≡◌, ◌∷◌, IfErr, IfOk, IsSome, List, ℕ, Some, codes, map, option_map, string_bytes};
+ghost use Rattle.std.specs.Prelude.{◌≡◌, ◌∷◌, IfErr, IfOk, IfSome, IsSome, List, ℕ, Some, codes, map, option_map, string_bytes};
 ghost use Rattle.clap.specs.Words.{App, app_of, first_value, found_of, kind_of, rule_of, new_rule, with_rule};
 ghost use Rattle.ld_line.specs.Colour.{colour_word};
 ghost use Rattle.ld_words.specs.Ldraw.{intent_from, ldraw, ldraw_places, option_rule, with_option};
 ghost use Rattle.ld_words.specs.Shown.{intent_shown, options_shown, task_shown};
-ghost use Rattle.ld_words.specs.Words.{Intent, intent_of, number_in, options_from, task_of, value_or};
+ghost use Rattle.ld_words.specs.Words.{Intent, IsBetween, IsBounded, IsBoundedTask, intent_of, number_in, options_from, task_of, value_or};
 
 use crate::request::{Options, Request, Task};
 use crate::value::{
@@ -33,7 +33,8 @@ pub fn read_request<'a>(
 ) -> Result<Request<'a>, AllocError>
     requires in_grammar { IsSome (intent_of (map string_bytes words.now)) }
     requires given { map (λ word. word.now) given.now ≡ codes "ldraw" ∷ map string_bytes words.now }
-    ensures { IfOk result (λ request. intent_of (map string_bytes words.now) ≡ Some (intent_shown request)) }
+    ensures request { IfOk result (λ request. intent_of (map string_bytes words.now) ≡ Some (intent_shown request)) }
+    ensures bounds { IfOk result (λ request. IsBounded (intent_shown request)) }
 {
     match matches_of_words(alloc, given) {
         Ok(matches) => match request_from(&matches) {
@@ -105,7 +106,8 @@ fn with_option<'a>(
 }
 
 fn request_from<'a>(matches: &ArgMatches<'a>) -> Option<Request<'a>>
-    ensures { option_map intent_shown result ≡ intent_from (first_value (found_of matches.now)) }
+    ensures intent { option_map intent_shown result ≡ intent_from (first_value (found_of matches.now)) }
+    ensures bounds { IfSome result (λ request. IsBounded (intent_shown request)) }
 {
     let task = task_from(
         matches.get_str("command")?,
@@ -119,7 +121,8 @@ fn request_from<'a>(matches: &ArgMatches<'a>) -> Option<Request<'a>>
 }
 
 fn task_from<'a>(command: &str, word: &'a str, second: Option<&'a str>) -> Option<Task<'a>>
-    ensures { option_map task_shown result ≡ task_of command.now word.entry.now (option_map (λ w. w.now) second.entry) }
+    ensures task { option_map task_shown result ≡ task_of command.now word.entry.now (option_map (λ w. w.now) second.entry) }
+    ensures bounds { IfSome result (λ task. IsBoundedTask (task_shown task)) }
 {
     match second {
         Some(second) => two_words(command, word, second),
@@ -128,7 +131,11 @@ fn task_from<'a>(command: &str, word: &'a str, second: Option<&'a str>) -> Optio
 }
 
 fn options_from<'a>(matches: &ArgMatches<'a>) -> Options<'a>
-    ensures { options_shown result ≡ options_from (first_value (found_of matches.now)) }
+    ensures values { options_shown result ≡ options_from (first_value (found_of matches.now)) }
+    ensures workers { IsBetween 1 16 result.workers }
+    ensures max_entries { IsBetween 1 4000000 result.max_entries }
+    ensures max_depth { IsBetween 1 64 result.max_depth }
+    ensures cache { IsBetween 0 8000000 result.cache }
 {
     Options {
         colours: matches.get_str("--colours"),
@@ -141,7 +148,9 @@ fn options_from<'a>(matches: &ArgMatches<'a>) -> Options<'a>
 }
 
 fn number_or(default: u32, low: u32, high: u32, word: Option<&str>) -> u32
-    ensures { result ≡ value_or default (number_in low high) (option_map (λ w. w.now) word.entry) }
+    requires { IsBetween low high default }
+    ensures bounds { IsBetween low high result }
+    ensures value { result ≡ value_or default (number_in low high) (option_map (λ w. w.now) word.entry) }
 {
     match word {
         Some(word) => number_in(low, high, word).unwrap_or(default),

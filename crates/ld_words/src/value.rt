@@ -1,8 +1,8 @@
-ghost use Rattle.std.specs.Prelude.{◌≡◌, ◌<◌, ◌^◌, is_some, option_and_then, option_map};
+ghost use Rattle.std.specs.Prelude.{◌≡◌, ◌<◌, ◌^◌, IfSome, is_some, option_and_then, option_map};
 ghost use Rattle.ld_line.specs.Colour.{colour_word};
 ghost use Rattle.ld_line.specs.Digits.{decimal_number};
 ghost use Rattle.ld_words.specs.Shown.{task_shown};
-ghost use Rattle.ld_words.specs.Words.{between, cache_of, is_argument, listing_of, max_depth_of, max_entries_of, number_in, one_word, two_words, value_fits, workers_of};
+ghost use Rattle.ld_words.specs.Words.{IsBetween, IsBoundedTask, between, cache_of, is_argument, listing_of, max_depth_of, max_entries_of, number_in, one_word, two_words, value_fits, workers_of};
 
 use crate::listing::Listing;
 use crate::request::Task;
@@ -29,7 +29,8 @@ pub(crate) fn is_argument(word: &str) -> bool
 }
 
 pub(crate) fn number_in(low: u32, high: u32, word: &str) -> Option<u32>
-    ensures { result ≡ number_in low high word.now }
+    ensures number { result ≡ number_in low high word.now }
+    ensures bounds { IfSome result (λ number. IsBetween low high number) }
 {
     let value = read_number(word.as_bytes())?;
     if low <= value && value <= high {
@@ -75,7 +76,8 @@ fn listing(word: &str) -> Option<Listing>
 
 // What a command with one positional word is to do.
 pub(crate) fn one_word<'a>(command: &str, word: &'a str) -> Option<Task<'a>>
-    ensures { option_map task_shown result ≡ one_word command.now word.entry.now }
+    ensures task { option_map task_shown result ≡ one_word command.now word.entry.now }
+    ensures bounds { IfSome result (λ task. IsBoundedTask (task_shown task)) }
 {
     if command == "gen" {
         let count = number_in(1, MOST_BRICKS, word)?;
@@ -87,7 +89,8 @@ pub(crate) fn one_word<'a>(command: &str, word: &'a str) -> Option<Task<'a>>
 
 // What a command with two positional words is to do.
 pub(crate) fn two_words<'a>(command: &str, file: &'a str, script: &'a str) -> Option<Task<'a>>
-    ensures { option_map task_shown result ≡ two_words command.now file.entry.now script.entry.now }
+    ensures task { option_map task_shown result ≡ two_words command.now file.entry.now script.entry.now }
+    ensures bounds { IfSome result (λ task. IsBoundedTask (task_shown task)) }
 {
     if command == "replay" {
         Some(Task::Replay(file, script))

@@ -1,0 +1,54 @@
+-- What a workspace answers is what the query comes to over the texts as they stand.
+use Rattle.std.proofs.Common.{◌≡◌, ℕ, List, Option, Some, None, Result, Ok, Err, IfSome, refl, ap, sym, subst, ◌∙◌}
+use Rattle.ld_io.specs.Shelf.{Files}
+use Rattle.ld_names.specs.Standing.{Known, Text, known_map}
+use Rattle.ld_names.specs.declared.file.FileId.{FileId}
+use Rattle.ld_texts.specs.Known.{AreDistinct, id_of}
+use Rattle.ld_texts.specs.Reach.{wanted}
+use Rattle.ld_colour.specs.declared.colour.Colour.{Colour}
+use Rattle.ld_entry.specs.declared.entry.Entry.{Entry}
+use Rattle.ld_entry.specs.declared.entry.Fault.{Fault as LineFault}
+use Rattle.ld_engine.specs.Asking.{Answers, AnswersTold, IsAnswered}
+use Rattle.ld_engine.specs.Laws.{StandsForRoots}
+use Rattle.ld_engine.specs.Learning.{Learnt, learning, learnt, stopped, text_on}
+use Rattle.ld_engine.specs.declared.asking.Answer.{Answer}
+use Rattle.ld_engine.specs.declared.asking.AnswerError.{AnswerError}
+use Rattle.ld_engine.specs.declared.asking.AnswerError.TheVariants.{Fault, ReadFault, TooBig, Full, NoRoot, Memory}
+use Rattle.ld_engine.specs.declared.limits.Limits.{Limits}
+use Rattle.ld_colour.specs.Colour.{colour_of}
+use Rattle.ld_words.specs.Words.{Options}
+use Rattle.ld_cmd.specs.Output.{limits_of, main_output, queried_output}
+use Rattle.ld_cmd.specs.Querying.{Queried, Queries, answer_at, answer_queried, answered_as, queried, where_there}
+use Rattle.ld_cmd.specs.Querying as query
+
+module _ (limits : Limits) (files : Files) (root : FileId) (colour : Colour) (old new : Known) (stands : StandsForRoots) (distinct : AreDistinct new) where
+
+  answered : (given : Result (List Entry) LineFault) → learning limits files root old ≡ learnt new → IsAnswered limits root colour new given → Queries limits files root colour old new (answered_as given)
+  answered given told is =
+    let texts = stands new (text_on files) distinct root is.id is.number is.nothing_wanted limits.depth limits.entries colour in
+    let there = ap (λ text. where_there (λ id. answered_as (answer_at limits files colour new id)) text (id_of new root)) is.there.1 in
+    let number = ap (λ id. where_there (λ id. answered_as (answer_at limits files colour new id)) (Some (Some is.there.0)) id) is.number in
+    record {
+      known = ap (λ all. all.known) told;
+      is = ap (λ all. queried limits files root colour all) told ∙ there ∙ number ∙ ap answered_as (texts ∙ is.answer);
+    }
+
+  pub query-told : (result : Result Answer AnswerError) → Answers limits root colour new result → AnswersTold limits files root old new result → IfSome (answer_queried result) (λ given. Queries limits files root colour old new given)
+  query-told (Ok answer) is told = answered (Ok answer.entries) told is
+  query-told (Err (Fault fault)) is told = answered (Err fault) told is
+  query-told (Err (TooBig file)) is told = record { known = ap (λ all. all.known) told; is = ap (λ all. queried limits files root colour all) told }
+  query-told (Err (Full over)) is told = record { known = ap (λ all. all.known) told; is = ap (λ all. queried limits files root colour all) told }
+  query-told (Err NoRoot) is told =
+    record {
+      known = ap (λ all. all.known) told;
+      is = ap (λ all. queried limits files root colour all) told ∙ ap (λ text. where_there (λ id. answered_as (answer_at limits files colour new id)) text (id_of new root)) is.1;
+    }
+  query-told (Err ReadFault) is told = tt
+  query-told (Err Memory) is told = tt
+
+-- the output of a query is that of what it comes to
+pub main-told : (show : Known → Answer → List ℕ) (options : Options) (files : Files) (main : FileId) (old new : Known) (found : Option Queried) → IfSome found (λ given. Queries (limits_of options) files main (colour_of options.main) old new given) → IfSome found (λ given. queried_output show new given ≡ main_output show options files (Some main) old)
+main-told show options files main old new None is = tt
+main-told show options files main old new (Some given) is =
+    let all = learning (limits_of options) files main old in
+    ap (λ known. queried_output show known given) (sym is.known) ∙ ap (queried_output show all.known) (sym is.is)

@@ -1,0 +1,159 @@
+// A model: its texts are known, and its main model is asked for.
+ghost use Rattle.std.specs.Prelude.{◌≡◌, ◌≢◌, ◌≤◌, ◌++◌, [], ℕ, List, Ok, Err, IfOk, IfSome, Some, length, None};
+ghost use Rattle.std.specs.List.{flat_map};
+ghost use Rattle.ld_io.specs.Faults.{HasRisen};
+ghost use Rattle.ld_mpd.specs.Blocks.{text_blocks};
+ghost use Rattle.ld_colour.specs.Table.{counting};
+ghost use Rattle.ld_engine.specs.Limits.{bad_limit};
+ghost use Rattle.ld_engine.specs.Loading.{load, main_of};
+ghost use Rattle.ld_report.specs.Entries.{fault_text};
+ghost use Rattle.ld_words.specs.Shown.{options_shown};
+ghost use Rattle.ld_cmd.specs.Made.{Gives, Makes};
+ghost use Rattle.ld_cmd.specs.Output.{Output, file_bytes, limits_of, loaded_by, main_output, model_output, queried_output, shown_text};
+ghost use Rattle.ld_cmd.specs.Querying.{answer_queried};
+
+use crate::inputs::FILE_BYTES;
+use crate::lines::{about_file, about_limit};
+use crate::answer::{Shown, print_answer};
+use crate::made::{Made, Stop};
+use crate::query::ask;
+use crate::status::Status;
+use ld_colour::{Table, colour_of};
+use ld_engine::{Answer, AnswerError, Limits, LoadError, OpenError, Workspace};
+use ld_entry::Fault;
+use ld_io::Shelf;
+use ld_names::{FileId, Name};
+use ld_report::print_fault;
+use ld_texts::Texts;
+use ld_words::Options;
+use std::alloc::{AllocError, Global};
+
+// The most files that may be known.
+const TEXTS: u32 = 65_535;
+
+// The most that their texts may weigh, by the bytes of their lines and 32 more for each line.
+const TOTAL_WEIGHT: u64 = 268_435_456;
+
+fn limits_of(options: &Options) -> Limits
+    ensures { result ≡ limits_of (options_shown options.now) }
+{
+    Limits {
+        entries: options.max_entries,
+        depth: options.max_depth,
+        cache: options.cache,
+        texts: TEXTS,
+        file_bytes: FILE_BYTES,
+        total_weight: TOTAL_WEIGHT,
+    }
+}
+
+// What a model shows, by its name and its bytes.
+pub(crate) fn show_model<S: Shelf>(
+    alloc: Global,
+    what: Shown,
+    options: &Options,
+    own: &Name,
+    bytes: &[u8],
+    table: &Table,
+    shelf: &mut S,
+) -> Result<Made, Stop>
+    requires bounds { bad_limit (limits_of (options_shown options.now)) ≡ None }
+    requires size { length bytes.now ≤ file_bytes }
+    ensures told { IfSome (S.files shelf.old) (λ files. Makes (model_output (shown_text what (counting table.now)) (options_shown options.now) files own.now bytes.now) result) }
+    ensures goes_on { result ≢ Err Stop.Usage }
+    ensures cause { result ≡ Err Stop.ReadFault → HasRisen (S.faults shelf.old) (S.faults shelf.new) }
+    ensures same { S.files shelf.new ≡ S.files shelf.old }
+    ensures never_falls { S.faults shelf.old ≤ S.faults shelf.new }
+{
+    let mut workspace = match Workspace::open(alloc, limits_of(options)) {
+        Ok(workspace) => workspace,
+        Err(OpenError::BadLimit(_)) => unreachable!(),
+        Err(OpenError::Memory) => return Err(Stop::Memory),
+    };
+    match load_model(alloc, &mut workspace, own, bytes) {
+        Ok(main) => show_main(alloc, what, options, &mut workspace, &main, table, shelf),
+        Err(stop) => Err(stop),
+    }
+}
+
+// Makes the texts of a model's file known, and gives its main model.
+fn load_model(
+    alloc: Global,
+    workspace: &mut Workspace,
+    own: &Name,
+    bytes: &[u8],
+) -> Result<FileId, Stop>
+    requires nothing_known { workspace.old.texts.known ≡ [] }
+    requires size { length bytes.now ≤ workspace.old.limits.file_bytes }
+    ensures limits { workspace.new.limits ≡ workspace.old.limits }
+    ensures loaded { Gives (λ main. workspace.new.texts.known) (loaded_by (load workspace.old.limits [] (text_blocks own.now bytes.now))) result }
+    ensures main { IfOk result (λ main. main_of (text_blocks own.now bytes.now) ≡ Some main) }
+    ensures goes_on { result ≢ Err Stop.Usage }
+    ensures no_fault { result ≢ Err Stop.ReadFault }
+{
+    match workspace.load(own, bytes) {
+        Ok(main) => Ok(main),
+        Err(LoadError::Full(over)) => Err(about_limit(alloc, over)),
+        Err(LoadError::Memory) => Err(Stop::Memory),
+    }
+}
+
+fn show_main<S: Shelf>(
+    alloc: Global,
+    what: Shown,
+    options: &Options,
+    workspace: &mut Workspace,
+    main: &FileId,
+    table: &Table,
+    shelf: &mut S,
+) -> Result<Made, Stop>
+    requires limits { workspace.old.limits ≡ limits_of (options_shown options.now) }
+    ensures told { IfSome (S.files shelf.old) (λ files. Makes (main_output (shown_text what (counting table.now)) (options_shown options.now) files (Some main.now) workspace.old.texts.known) result) }
+    ensures goes_on { result ≢ Err Stop.Usage }
+    ensures cause { result ≡ Err Stop.ReadFault → HasRisen (S.faults shelf.old) (S.faults shelf.new) }
+    ensures same { S.files shelf.new ≡ S.files shelf.old }
+    ensures never_falls { S.faults shelf.old ≤ S.faults shelf.new }
+{
+    let answer = ask(workspace, shelf, main, colour_of(options.main));
+    show_answer(alloc, what, workspace.texts(), table, answer)
+}
+
+fn show_answer(
+    alloc: Global,
+    what: Shown,
+    texts: &Texts,
+    table: &Table,
+    answer: Result<Answer, AnswerError>,
+) -> Result<Made, Stop>
+    ensures shown { (wanted : Output) → IfSome (answer_queried answer) (λ given. queried_output (shown_text what (counting table.now)) texts.now.known given ≡ wanted) → Makes wanted result }
+    ensures goes_on { result ≢ Err Stop.Usage }
+    ensures fault { result ≡ Err Stop.ReadFault → answer ≡ Err AnswerError.ReadFault }
+{
+    match answer {
+        Ok(answer) => Ok(Made {
+            text: print_answer(alloc, what, texts, table, &answer)?,
+            status: Status::Done,
+        }),
+        Err(AnswerError::Fault(fault)) => Ok(Made {
+            text: fault_line(alloc, texts, &fault)?,
+            status: Status::Faulted,
+        }),
+        Err(AnswerError::TooBig(file)) => Err(about_file(alloc, &file)),
+        Err(AnswerError::Full(over)) => Err(about_limit(alloc, over)),
+        // The main model is always there.
+        Err(AnswerError::NoRoot) => Ok(Made {
+            text: Vec::new(alloc),
+            status: Status::Done,
+        }),
+        Err(AnswerError::ReadFault) => Err(Stop::ReadFault),
+        Err(AnswerError::Memory) => Err(Stop::Memory),
+    }
+}
+
+fn fault_line(alloc: Global, texts: &Texts, fault: &Fault) -> Result<Vec<u8>, AllocError>
+    ensures { IfOk result (λ text. text.items ≡ fault_text texts.now.known fault.now) }
+{
+    let mut text = Vec::new(alloc);
+    print_fault(texts, fault, &mut text)?;
+    Ok(text)
+}
