@@ -1,3 +1,4 @@
 pub mod Bounds
+mod Bricks
 pub mod Endings
 mod Queries

@@ -1,5 +1,6 @@
 pub mod Ending
 pub mod Folders
+pub mod Generator
 pub mod Made
 pub mod Output
 pub mod Querying

@@ -3,6 +3,7 @@
 
 mod answer;
 mod folders;
+mod generator;
 mod inputs;
 mod lines;
 mod made;
