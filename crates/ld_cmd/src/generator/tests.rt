@@ -53,6 +53,6 @@ fn models_and_their_summary(rt: HostRuntime) -> Result<(), Fail> {
         .ok_or("no parts")?;
     assert!(rt; before.ends_with(LAST));
     let text = summary(rt.alloc(), 100, 16, 3)?;
-    assert!(rt; text.as_slice() == b"entries 100\nparts 16\nsteps 3\n");
+    assert!(rt; text.as_slice() == b"entries 100\nparts 16\nsteps 3\n".as_slice());
     Ok(())
 }
