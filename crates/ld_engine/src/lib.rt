@@ -19,6 +19,8 @@ mod load_tests;
 mod loading;
 mod root;
 mod seen;
+#[cfg(test)]
+mod step_tests;
 mod stepping;
 #[cfg(test)]
 mod tests;

@@ -266,7 +266,8 @@ clip-and-winding => m.ldr|0 BFC CERTIFY CW|0 BFC CERTIFY CCW|3 16 0 0 0 1 0 0 0 
 Tri Main cert noclip Ccw 0,0,0 1,0,0 0,1,0 t.ldr:2\n\
 root in its own folder => parts/m.ldr => m.ldr => 16 => NoRoot";
 
-const ORDINARY: &str = "parts/3001.dat|0 Brick  2 x  4|0 Name: 3001.dat|0 Author: A Builder|\
+pub(crate) const ORDINARY: &str =
+    "parts/3001.dat|0 Brick  2 x  4|0 Name: 3001.dat|0 Author: A Builder|\
                         0 !LDRAW_ORG Unofficial_Part|0 !LICENSE Example licence|0 BFC CERTIFY CCW|\
                         4 16 -40 0 -20 -40 0 20 40 0 20 40 0 -20|1 16 0 -4 0 I stud.dat\
                         ||p/stud.dat|0 Stud|0 Name: stud.dat|0 Author: A Builder|\
