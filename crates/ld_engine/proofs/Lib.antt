@@ -9,3 +9,4 @@ pub mod Learned
 pub mod Roots
 pub mod Loaded
 pub mod Settled
+pub mod Standing

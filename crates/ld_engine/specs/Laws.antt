@@ -1,6 +1,7 @@
--- What answers say: over the known texts, of the texts as they stand, and of their steps.
+-- What answers say: over the known texts, of the texts as they stand, and of their steps; and what learning leaves.
 use Rattle.std.specs.Prelude.{◌≡◌, ℕ, length, Some, None, Ok}
-use Rattle.ld_names.specs.Standing.{Known, Text}
+use Rattle.ld_io.specs.Shelf.{Files}
+use Rattle.ld_names.specs.Standing.{Known, Text, known_map, standing}
 use Rattle.ld_names.specs.declared.file.FileId.{FileId}
 use Rattle.ld_names.specs.declared.file.TextId.{TextId}
 use Rattle.ld_texts.specs.Known.{AreDistinct, id_of}
@@ -8,8 +9,10 @@ use Rattle.ld_texts.specs.Reach.{wanted}
 use Rattle.ld_colour.specs.declared.colour.Colour.{Colour}
 use Rattle.ld_steps.specs.Laws.{AreSteps}
 use Rattle.ld_entry.specs.NumberedTexts.{known_texts, NumberedTexts, standing_texts}
+use Rattle.ld_engine.specs.Learning.{learning, text_on}
 use Rattle.ld_engine.specs.Stepping.{answer_with_steps}
 use Rattle.ld_engine.specs.declared.asking.Answer.{Answer}
+use Rattle.ld_engine.specs.declared.limits.Limits.{Limits}
 
 -- Where nothing is wanted for a root, recursive expansion of the known texts answers it as that of the texts as they
 -- stand does, whatever the shelf has of the files that are not known.
@@ -22,3 +25,9 @@ StandsForRoots =
 abbrev pub StepsOfAnswers : Type 0
 StepsOfAnswers =
     (texts : NumberedTexts) (depth most : ℕ) (root : TextId) (colour : Colour) (answer : Answer) → answer_with_steps texts depth most root colour ≡ Ok answer → AreSteps (length answer.entries) answer.steps
+
+-- Learning leaves the texts as they stand: once it has ended, or has stopped, what is known and what the shelf has of
+-- the other files say of every file what they said before.
+abbrev pub LearningStands : Type 0
+LearningStands =
+    (limits : Limits) (files : Files) (root : FileId) (known : Known) (file : FileId) → standing (known_map (learning limits files root known).known) (text_on files) file ≡ standing (known_map known) (text_on files) file

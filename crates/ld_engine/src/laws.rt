@@ -1,6 +1,7 @@
-ghost use Rattle.ld_engine.specs.Laws.{StandsForRoots, StepsOfAnswers};
+ghost use Rattle.ld_engine.specs.Laws.{LearningStands, StandsForRoots, StepsOfAnswers};
 
 use ld_entry::standing_law;
+use ld_names::{learning_law, lookup_law};
 use ld_steps::part_law;
 use ld_texts::number_law;
 
@@ -18,4 +19,14 @@ pub fn steps_law()
     ensures { StepsOfAnswers }
 {
     part_law();
+}
+
+/// Learning leaves the texts as they stand: where a shelf tells its files, what is known once
+/// learning has ended, or has stopped, says of every file what stood before.
+pub fn learnt_law()
+    ensures { LearningStands }
+{
+    number_law();
+    lookup_law();
+    learning_law();
 }

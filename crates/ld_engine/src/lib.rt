@@ -27,7 +27,7 @@ mod tests;
 mod workspace;
 
 pub use asking::{Answer, AnswerError};
-pub use laws::{root_law, steps_law};
+pub use laws::{learnt_law, root_law, steps_law};
 pub use limits::{Limits, OpenError};
 pub use loading::LoadError;
 pub use workspace::Workspace;
