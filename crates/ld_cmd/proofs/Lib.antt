@@ -2,3 +2,4 @@ pub mod Bounds
 mod Bricks
 pub mod Endings
 mod Queries
+pub mod Sizes

@@ -6,7 +6,6 @@ use Rattle.ld_names.specs.declared.file.FileId.{FileId}
 use Rattle.ld_texts.specs.Known.{AreDistinct, id_of}
 use Rattle.ld_texts.specs.Reach.{wanted}
 use Rattle.ld_colour.specs.declared.colour.Colour.{Colour}
-use Rattle.ld_entry.specs.declared.entry.Entry.{Entry}
 use Rattle.ld_entry.specs.declared.entry.Fault.{Fault as LineFault}
 use Rattle.ld_engine.specs.Asking.{Answers, AnswersTold, IsAnswered}
 use Rattle.ld_engine.specs.Laws.{StandsForRoots}
@@ -23,7 +22,7 @@ use Rattle.ld_cmd.specs.Querying as query
 
 module _ (limits : Limits) (files : Files) (root : FileId) (colour : Colour) (old new : Known) (stands : StandsForRoots) (distinct : AreDistinct new) where
 
-  answered : (given : Result (List Entry) LineFault) → learning limits files root old ≡ learnt new → IsAnswered limits root colour new given → Queries limits files root colour old new (answered_as given)
+  answered : (given : Result Answer LineFault) → learning limits files root old ≡ learnt new → IsAnswered limits root colour new given → Queries limits files root colour old new (answered_as given)
   answered given told is =
     let texts = stands new (text_on files) distinct root is.id is.number is.nothing_wanted limits.depth limits.entries colour in
     let there = ap (λ text. where_there (λ id. answered_as (answer_at limits files colour new id)) text (id_of new root)) is.there.1 in
@@ -34,7 +33,7 @@ module _ (limits : Limits) (files : Files) (root : FileId) (colour : Colour) (ol
     }
 
   pub query-told : (result : Result Answer AnswerError) → Answers limits root colour new result → AnswersTold limits files root old new result → IfSome (answer_queried result) (λ given. Queries limits files root colour old new given)
-  query-told (Ok answer) is told = answered (Ok answer.entries) told is
+  query-told (Ok answer) is told = answered (Ok answer) told is
   query-told (Err (Fault fault)) is told = answered (Err fault) told is
   query-told (Err (TooBig file)) is told = record { known = ap (λ all. all.known) told; is = ap (λ all. queried limits files root colour all) told }
   query-told (Err (Full over)) is told = record { known = ap (λ all. all.known) told; is = ap (λ all. queried limits files root colour all) told }

@@ -1,6 +1,6 @@
 -- What a run writes and how it ends (this project's own).
 use Rattle.std.specs.Prelude.{ℕ, Bool, true, false, nat_lt, List, [], ◌∷◌, ◌++◌, length, Option, Some, None, Result, Ok, Err, codes, decimal, if◌then◌else◌, ◌==◌, ◌||◌}
-use Rattle.std.specs.List.{flat_map, list_any}
+use Rattle.std.specs.List.{list_any}
 use Rattle.ld_io.specs.Shelf.{Files}
 use Rattle.ld_io.specs.declared.shelf.Place.TheVariants.{Work}
 use Rattle.ld_names.specs.Normal.{normal_of}
@@ -16,12 +16,15 @@ use Rattle.ld_engine.specs.Learning.{Learnt, Stop, TooBig, Full, learning}
 use Rattle.ld_engine.specs.Loading.{load, main_of}
 use Rattle.ld_engine.specs.declared.asking.Answer.{Answer}
 use Rattle.ld_engine.specs.declared.limits.Limits.{Limits}
-use Rattle.ld_report.specs.Entries.{entry_text, fault_text}
+use Rattle.ld_report.specs.Entries.{entries_text, fault_text}
+use Rattle.ld_report.specs.Parts.{parts_of, parts_text}
 use Rattle.ld_report.specs.Pieces.{file_text}
+use Rattle.ld_report.specs.Steps.{steps_text}
 use Rattle.ld_words.specs.Words.{Intent, Options, Task, Show, Replay, Generate, intent_of}
 use Rattle.ld_words.specs.declared.listing.Listing.TheVariants as listing
+use Rattle.ld_cmd.specs.Generator.{generated, summary_text}
 use Rattle.ld_cmd.specs.declared.answer.Shown.{Shown}
-use Rattle.ld_cmd.specs.declared.answer.Shown.TheVariants.{Faces}
+use Rattle.ld_cmd.specs.declared.answer.Shown.TheVariants.{Faces, Steps, Parts, Summary}
 use Rattle.ld_cmd.specs.declared.status.Status.{Status}
 use Rattle.ld_cmd.specs.declared.status.Status.TheVariants as status
 use Rattle.ld_cmd.specs.Querying.{Queried, Stops, NoRoot, Faulted, Answered, queried}
@@ -49,7 +52,12 @@ usage = one_piece usage_line status.Usage
 
 abbrev pub is_answered : Task → Bool
 is_answered (Show listing.Faces file) = true
-is_answered task = false
+is_answered (Show listing.Steps file) = true
+is_answered (Show listing.Parts file) = true
+is_answered (Show listing.Inline file) = false
+is_answered (Show listing.Check file) = false
+is_answered (Replay file script) = false
+is_answered (Generate count) = true
 
 -- what the words ask for, if they are a command that is answered
 abbrev pub answered_intent : Option Intent → Option Intent
@@ -125,7 +133,10 @@ loaded_by (Err passed) = Err (one_piece (over_text passed) status.Limit)
 
 -- what is shown of an answer, by the colours that are defined and the files that are known
 abbrev pub shown_text : Shown → Counting → Known → Answer → List ℕ
-shown_text Faces table known answer = flat_map (entry_text known table) answer.entries
+shown_text Faces table known answer = entries_text known table answer.entries
+shown_text Steps table known answer = steps_text known table answer.entries answer.steps
+shown_text Parts table known answer = parts_text known (parts_of answer.entries)
+shown_text Summary table known answer = summary_text (length answer.entries) (length (parts_of answer.entries)) (length answer.steps)
 
 abbrev pub stop_text : Stop → List ℕ
 stop_text (TooBig file) = codes "toobig " ++ file_text file ++ codes "\n"
@@ -154,11 +165,21 @@ abbrev pub shown_output : Shown → List ℕ → Options → Files → Output
 shown_output what file options files =
     and_then (input file (files Work file)) (λ bytes. and_then (table_of options.colours files) (λ table. model_output (shown_text what table) options files (own_name file) bytes))
 
+-- the output about a generated model
+abbrev pub generated_output : ℕ → Options → Files → Output
+generated_output count options files =
+    and_then (table_of options.colours files) (λ table. model_output (shown_text Summary table) options files (codes "gen.mpd") (generated count))
+
 -- ---- The whole.
 
 abbrev pub task_output : Task → Options → Files → Output
 task_output (Show listing.Faces file) options files = shown_output Faces file options files
-task_output task options files = usage
+task_output (Show listing.Steps file) options files = shown_output Steps file options files
+task_output (Show listing.Parts file) options files = shown_output Parts file options files
+task_output (Show listing.Inline file) options files = usage
+task_output (Show listing.Check file) options files = usage
+task_output (Replay file script) options files = usage
+task_output (Generate count) options files = generated_output count options files
 
 abbrev pub commanded : Option Intent → Files → Output
 commanded None files = usage

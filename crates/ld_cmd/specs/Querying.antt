@@ -1,36 +1,36 @@
 -- A query over the files of a shelf: what its root reaches is learnt, and then the texts as they stand answer it by
 -- recursive expansion.
-use Rattle.std.specs.Prelude.{◌≡◌, ℕ, List, Option, Some, None, Result, Ok, Err, IfSome}
+use Rattle.std.specs.Prelude.{◌≡◌, ℕ, Option, Some, None, Result, Ok, Err, IfSome}
 use Rattle.ld_io.specs.Shelf.{Files}
 use Rattle.ld_names.specs.Standing.{Known, Text, known_map}
 use Rattle.ld_names.specs.declared.file.FileId.{FileId}
 use Rattle.ld_texts.specs.Known.{id_of}
 use Rattle.ld_colour.specs.declared.colour.Colour.{Colour}
-use Rattle.ld_entry.specs.Answers.{answer}
 use Rattle.ld_entry.specs.NumberedTexts.{standing_texts}
-use Rattle.ld_entry.specs.declared.entry.Entry.{Entry}
 use Rattle.ld_entry.specs.declared.entry.Fault.{Fault}
 use Rattle.ld_engine.specs.Learning.{Learnt, Stop, TooBig, Full, learning, text_on}
+use Rattle.ld_engine.specs.Stepping.{answer_with_steps}
 use Rattle.ld_engine.specs.declared.asking.Answer.{Answer}
 use Rattle.ld_engine.specs.declared.asking.AnswerError.{AnswerError}
 use Rattle.ld_engine.specs.declared.asking.AnswerError.TheVariants as refused
 use Rattle.ld_engine.specs.declared.limits.Limits.{Limits}
 
--- what a query comes to: what stops the learning, a root that is absent, the first fault, or all entries
+-- what a query comes to: what stops the learning, a root that is absent, the first fault, or all entries with
+-- their steps
 pub data Queried : Type 0 where
   Stops : Stop → Queried
   NoRoot : Queried
   Faulted : Fault → Queried
   Answered : Answer → Queried
 
-abbrev pub answered_as : Result (List Entry) Fault → Queried
-answered_as (Ok entries) = Answered (record { entries = entries })
+abbrev pub answered_as : Result Answer Fault → Queried
+answered_as (Ok answer) = Answered answer
 answered_as (Err fault) = Faulted fault
 
 -- the answer of the texts as they stand to a root by its number
-abbrev pub answer_at : Limits → Files → Colour → Known → ℕ → Result (List Entry) Fault
+abbrev pub answer_at : Limits → Files → Colour → Known → ℕ → Result Answer Fault
 answer_at limits files colour known id =
-    answer (standing_texts known (text_on files)) limits.depth limits.entries (record { 0 = id }) colour
+    answer_with_steps (standing_texts known (text_on files)) limits.depth limits.entries (record { 0 = id }) colour
 
 -- by the text and the number that are known of the root
 abbrev pub where_there : (ℕ → Queried) → Option Text → Option ℕ → Queried

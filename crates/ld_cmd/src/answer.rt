@@ -1,21 +1,27 @@
-// What an answer shows.
-ghost use Rattle.std.specs.Prelude.{◌≡◌, ◌++◌, IfOk};
-ghost use Rattle.std.specs.List.{flat_map};
+// What is shown of an answer.
+ghost use Rattle.std.specs.Prelude.{◌≡◌, ◌<◌, ◌^◌, IfOk, length};
 ghost use Rattle.ld_colour.specs.Table.{counting};
-ghost use Rattle.ld_report.specs.Entries.{entry_text};
+ghost use Rattle.ld_report.specs.Entries.{entries_text};
+ghost use Rattle.ld_report.specs.Parts.{parts_of, parts_text};
+ghost use Rattle.ld_report.specs.Steps.{steps_text};
+ghost use Rattle.ld_cmd.specs.Generator.{summary_text};
 ghost use Rattle.ld_cmd.specs.Output.{shown_text};
 
+use crate::generator::summary;
 use ld_colour::Table;
 use ld_engine::Answer;
 use ld_entry::Entry;
-use ld_report::print_entry;
+use ld_report::{parts_list, print_entries, print_parts, print_steps};
 use ld_texts::Texts;
 use std::alloc::{AllocError, Global};
 
-// What is shown of an answer.
+// What a command shows of an answer.
 #[derive(Clone, Copy, Debug, PartialEq, Eq)]
 pub(crate) enum Shown {
     Faces,
+    Steps,
+    Parts,
+    Summary,
 }
 
 pub(crate) fn print_answer(
@@ -25,24 +31,68 @@ pub(crate) fn print_answer(
     table: &Table,
     answer: &Answer,
 ) -> Result<Vec<u8>, AllocError>
+    requires { length answer.now.entries < 2 ^ 32 }
     ensures { IfOk result (λ text. text.items ≡ shown_text what (counting table.now) texts.now.known answer.now) }
 {
     match what {
-        Shown::Faces => print_entries(alloc, texts, table, answer.entries.as_slice()),
+        Shown::Faces => print_faces(alloc, texts, table, answer.entries.as_slice()),
+        Shown::Steps => print_with_steps(alloc, texts, table, answer),
+        Shown::Parts => print_parts_list(alloc, texts, answer.entries.as_slice()),
+        Shown::Summary => print_summary(alloc, answer),
     }
 }
 
-fn print_entries(
+fn print_faces(
     alloc: Global,
     texts: &Texts,
     table: &Table,
     entries: &[Entry],
 ) -> Result<Vec<u8>, AllocError>
-    ensures { IfOk result (λ text. text.items ≡ flat_map (entry_text texts.now.known (counting table.now)) entries.now) }
+    ensures { IfOk result (λ text. text.items ≡ entries_text texts.now.known (counting table.now) entries.now) }
 {
     let mut text = Vec::new(alloc);
-    for entry in entries {
-        print_entry(texts, table, entry, &mut text)?;
-    }
+    print_entries(texts, table, entries, &mut text)?;
     Ok(text)
+}
+
+fn print_with_steps(
+    alloc: Global,
+    texts: &Texts,
+    table: &Table,
+    answer: &Answer,
+) -> Result<Vec<u8>, AllocError>
+    ensures { IfOk result (λ text. text.items ≡ steps_text texts.now.known (counting table.now) answer.now.entries answer.now.steps) }
+{
+    let mut text = Vec::new(alloc);
+    print_steps(
+        texts,
+        table,
+        answer.entries.as_slice(),
+        answer.steps.as_slice(),
+        &mut text,
+    )?;
+    Ok(text)
+}
+
+fn print_parts_list(
+    alloc: Global,
+    texts: &Texts,
+    entries: &[Entry],
+) -> Result<Vec<u8>, AllocError>
+    requires { length entries.now < 2 ^ 32 }
+    ensures { IfOk result (λ text. text.items ≡ parts_text texts.now.known (parts_of entries.now)) }
+{
+    let parts = parts_list(alloc, entries)?;
+    let mut text = Vec::new(alloc);
+    print_parts(texts, parts.as_slice(), &mut text)?;
+    Ok(text)
+}
+
+fn print_summary(alloc: Global, answer: &Answer) -> Result<Vec<u8>, AllocError>
+    requires { length answer.now.entries < 2 ^ 32 }
+    ensures { IfOk result (λ text. text.items ≡ summary_text (length answer.now.entries) (length (parts_of answer.now.entries)) (length answer.now.steps)) }
+{
+    let entries = answer.entries.as_slice();
+    let parts = parts_list(alloc, entries)?;
+    summary(alloc, entries.len(), parts.len(), answer.steps.as_slice().len())
 }

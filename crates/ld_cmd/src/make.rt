@@ -7,8 +7,9 @@ ghost use Rattle.ld_engine.specs.Limits.{bad_limit};
 ghost use Rattle.ld_words.specs.Shown.{intent_shown, options_shown};
 ghost use Rattle.ld_words.specs.Words.{IsBounded};
 ghost use Rattle.ld_cmd.specs.Made.{IsFaulty, Makes};
-ghost use Rattle.ld_cmd.specs.Output.{after_slash, answered_intent, commanded, limits_of, name_or_default, output, own_name, request_of, shown_output};
+ghost use Rattle.ld_cmd.specs.Output.{after_slash, answered_intent, commanded, generated_output, limits_of, name_or_default, output, own_name, request_of, shown_output};
 
+use crate::generator::generate;
 use crate::inputs::{read_input, read_table};
 use crate::answer::Shown;
 use crate::made::{Made, Stop};
@@ -54,9 +55,13 @@ fn make_request<S: Shelf>(
     ensures same { S.files shelf.new ≡ S.files shelf.old }
     ensures never_falls { S.faults shelf.old ≤ S.faults shelf.new }
 {
+    let options = &request.options;
     match request.task {
-        Task::Show(Listing::Faces, file) => show_file(alloc, Shown::Faces, file, &request.options, shelf),
-        _ => Err(Stop::Usage),
+        Task::Show(Listing::Faces, file) => show_file(alloc, Shown::Faces, file, options, shelf),
+        Task::Show(Listing::Steps, file) => show_file(alloc, Shown::Steps, file, options, shelf),
+        Task::Show(Listing::Parts, file) => show_file(alloc, Shown::Parts, file, options, shelf),
+        Task::Generate(count) => show_generated(alloc, count, options, shelf),
+        Task::Show(Listing::Inline | Listing::Check, _) | Task::Replay(_, _) => Err(Stop::Usage),
     }
 }
 
@@ -86,6 +91,48 @@ fn show_file<S: Shelf>(
     let own = own_name(alloc, file.as_bytes())?;
     show_model(alloc, what, options, &own, bytes.as_slice(), &table, shelf)
 }
+// What a generated model of so many bricks comes to.
+fn show_generated<S: Shelf>(
+    alloc: Global,
+    count: u32,
+    options: &Options,
+    shelf: &mut S,
+) -> Result<Made, Stop>
+    requires bounds { bad_limit (limits_of (options_shown options.now)) ≡ None }
+    requires count { count ≤ 100000 }
+    ensures told { IfSome (S.files shelf.old) (λ files. Makes (generated_output count (options_shown options.now) files) result) }
+    ensures goes_on { result ≢ Err Stop.Usage }
+    ensures cause { result ≡ Err Stop.ReadFault → HasRisen (S.faults shelf.old) (S.faults shelf.new) }
+    ensures same { S.files shelf.new ≡ S.files shelf.old }
+    ensures never_falls { S.faults shelf.old ≤ S.faults shelf.new }
+{
+    let table = match read_table(alloc, options.colours, shelf) {
+        Ok(table) => table,
+        Err(stop) => return Err(stop),
+    };
+    let own = generated_name(alloc)?;
+    let bytes = generate(alloc, count)?;
+    show_model(
+        alloc,
+        Shown::Summary,
+        options,
+        &own,
+        bytes.as_slice(),
+        &table,
+        shelf,
+    )
+}
+
+#[tactic(auto, unfolding(ld_names::specs::Normal::normal_of))]
+fn generated_name(alloc: Global) -> Result<Name, AllocError>
+    ensures { IfOk result (λ name. name ≡ codes "gen.mpd") }
+{
+    match normal(alloc, b"gen.mpd") {
+        Ok(name) => Ok(name),
+        Err(_) => Err(AllocError),
+    }
+}
+
 // The main model's own name, by the word that names its file.
 fn own_name(alloc: Global, word: &[u8]) -> Result<Name, AllocError>
     ensures { IfOk result (λ name. name ≡ own_name word.now) }

@@ -1,5 +1,5 @@
 // A model: its texts are known, and its main model is asked for.
-ghost use Rattle.std.specs.Prelude.{◌≡◌, ◌≢◌, ◌≤◌, ◌++◌, [], ℕ, List, Ok, Err, IfOk, IfSome, Some, length, None};
+ghost use Rattle.std.specs.Prelude.{◌≡◌, ◌≢◌, ◌≤◌, ◌++◌, ◌<◌, ◌^◌, [], ℕ, List, Ok, Err, IfOk, IfSome, Some, length, None};
 ghost use Rattle.std.specs.List.{flat_map};
 ghost use Rattle.ld_io.specs.Faults.{HasRisen};
 ghost use Rattle.ld_mpd.specs.Blocks.{text_blocks};
@@ -114,6 +114,7 @@ fn show_main<S: Shelf>(
     ensures same { S.files shelf.new ≡ S.files shelf.old }
     ensures never_falls { S.faults shelf.old ≤ S.faults shelf.new }
 {
+    let _most = options.max_entries;
     let answer = ask(workspace, shelf, main, colour_of(options.main));
     show_answer(alloc, what, workspace.texts(), table, answer)
 }
@@ -125,6 +126,7 @@ fn show_answer(
     table: &Table,
     answer: Result<Answer, AnswerError>,
 ) -> Result<Made, Stop>
+    requires { IfOk answer (λ answer. length answer.entries < 2 ^ 32) }
     ensures shown { (wanted : Output) → IfSome (answer_queried answer) (λ given. queried_output (shown_text what (counting table.now)) texts.now.known given ≡ wanted) → Makes wanted result }
     ensures goes_on { result ≢ Err Stop.Usage }
     ensures fault { result ≡ Err Stop.ReadFault → answer ≡ Err AnswerError.ReadFault }

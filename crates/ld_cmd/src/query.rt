@@ -1,11 +1,12 @@
 // Questions to the workspace, over the files of a shelf.
-ghost use Rattle.std.specs.Prelude.{◌≡◌, ◌≤◌, Err, IfSome};
+ghost use Rattle.std.specs.Prelude.{◌≡◌, ◌≤◌, Err, IfOk, IfSome, length};
 ghost use Rattle.ld_io.specs.Faults.{HasRisen};
 ghost use Rattle.ld_engine.specs.declared.asking.AnswerError.TheVariants.{ReadFault};
 ghost use Rattle.ld_cmd.specs.Querying.{Queries, answer_queried};
 
 use ld_colour::Colour;
 use ld_engine::{Answer, AnswerError, Workspace, root_law};
+use ld_entry::tint_law;
 use ld_io::Shelf;
 use ld_names::FileId;
 
@@ -19,11 +20,13 @@ pub(crate) fn ask<S: Shelf>(
     ensures limits { workspace.new.limits ≡ workspace.old.limits }
     ensures told { IfSome (S.files shelf.old) (λ files. IfSome (answer_queried result)
         (λ given. Queries workspace.old.limits files root.now colour workspace.old.texts.known workspace.new.texts.known given)) }
+    ensures size { IfOk result (λ answer. length answer.entries ≤ workspace.old.limits.entries) }
     ensures cause { result ≡ Err ReadFault → HasRisen (S.faults shelf.old) (S.faults shelf.new) }
     ensures same { S.files shelf.new ≡ S.files shelf.old }
     ensures never_falls { S.faults shelf.old ≤ S.faults shelf.new }
 {
     root_law();
+    tint_law();
     let result = workspace.answer(shelf, root, colour);
     let _ = workspace.texts().known();
     result

@@ -1,4 +1,8 @@
 //! Worked runs of the command, over files in memory.
+ghost use Rattle.std.specs.Prelude.{◌≡◌, [], ◌∷◌, None, Some, codes};
+ghost use Rattle.ld_cmd.specs.Folders.{model_folder};
+ghost use Rattle.ld_cmd.specs.Output.{one_piece, output, usage};
+ghost use Rattle.ld_cmd.specs.declared.status.Status.TheVariants.{Done, Input};
 
 use crate::folders::{Unusable, library_folder, model_folder};
 use crate::{Status, run};
@@ -275,6 +279,75 @@ badcolour 2
 @faces a/b/My Car.LDR
 ~2
 usage: ldraw (faces|steps|parts|inline|check) FILE | replay FILE SCRIPT | gen N
+@steps m.ldr
+^work m.ldr
+~0
+step 1 entries 0 view -
+@parts m.ldr
+^work m.ldr
+~0
+@steps m.ldr
+^work m.ldr
+0 FILE m.ldr
+2 24 0 0 0 1 0 0
+0 STEP
+0 STEP
+0 ROTSTEP 0 45 0 REL
+0 ROTSTEP 10 0 0 ADD
+1 16 0 0 0 1 0 0 0 1 0 0 0 1 s.ldr
+0 ROTSTEP END
+2 24 0 0 0 2 0 0
+0 STEP
+0 FILE s.ldr
+2 24 0 0 0 3 0 0
+0 STEP
+2 24 0 0 0 4 0 0
+~0
+step 1 entries 1 view -
+line 24 - nocert clip ccw 0,0,0 1,0,0 model/m.ldr:1
+step 2 entries 0 view -
+step 3 entries 0 view rel:0,45,0
+step 4 entries 0 view rel:0,45,0 rel:10,0,0
+step 5 entries 2 view -
+line 24 - nocert clip ccw 0,0,0 3,0,0 model/s.ldr:1
+line 24 - nocert clip ccw 0,0,0 4,0,0 model/s.ldr:3
+step 6 entries 1 view -
+line 24 - nocert clip ccw 0,0,0 2,0,0 model/m.ldr:8
+@steps m.ldr
+^work m.ldr
+6 junk
+~1
+fault malformed model/m.ldr:1
+@parts m.ldr
+^work m.ldr
+1 4 0 0 0 1 0 0 0 1 0 0 0 1 a.dat
+1 1 0 0 0 1 0 0 0 1 0 0 0 1 b.dat
+1 4 0 0 0 1 0 0 0 1 0 0 0 1 a.dat
+1 24 0 0 0 1 0 0 0 1 0 0 0 1 a.dat
+^parts a.dat
+1 16 0 0 0 1 0 0 0 1 0 0 0 1 b.dat
+^parts b.dat
+~0
+2 4 parts/a.dat
+1 1 parts/b.dat
+1 24 parts/a.dat
+@gen 25
+~0
+entries 100
+parts 16
+steps 3
+@gen 9 --max-entries 35
+~1
+fault toomany model/stud.dat:5
+@gen 10 --colours gone.ldr
+~3
+absent gone.ldr
+@inline m.ldr
+~2
+usage: ldraw (faces|steps|parts|inline|check) FILE | replay FILE SCRIPT | gen N
+@replay m.ldr s.txt
+~2
+usage: ldraw (faces|steps|parts|inline|check) FILE | replay FILE SCRIPT | gen N
 ";
 
 // The words of a line, which stand between spaces.
@@ -336,3 +409,179 @@ fn answers_over_files_in_memory(rt: HostRuntime) -> Result<(), Fail> {
     }
     Ok(())
 }
+
+const LINE: &str = "2 24 0 0 0 1 0 0\n";
+
+// The words with a file of this name give its one line under the own name.
+fn shows_under(alloc: Global, word: &str, own: &str) -> Result<bool, AllocError> {
+    let mut shelf = SureShelf::new(alloc);
+    shelf.add(Place::Work, word.as_bytes(), LINE.as_bytes())?;
+    let mut sink = SureSink::new(alloc);
+    let words = [
+        String::from_str(alloc, "faces")?,
+        String::from_str(alloc, word)?,
+    ];
+    let status = run(alloc, words.as_slice(), &mut shelf, &mut sink);
+    let text = format!(in alloc; "line 24 - nocert clip ccw 0,0,0 1,0,0 model/{own}:1\n")?;
+    Ok(status == Status::Done && sink.bytes() == text.as_bytes())
+}
+
+#[test]
+fn own_names_of_models(rt: HostRuntime) -> Result<(), Fail> {
+    for (word, own) in [
+        ("m.ldr", "m.ldr"),
+        ("a/b/My Car.LDR", "my car.ldr"),
+        ("a\\b.ldr", "b.ldr"),
+        ("a/", "model.ldr"),
+        ("a/..", "model.ldr"),
+    ] {
+        assert!(rt; shows_under(rt.alloc(), word, own)?, "{word}");
+    }
+    Ok(())
+}
+
+// What a run gives over a model that refers to `x.dat`, where this fetch and this put fail, the put after so many bytes:
+// the number of the status, how many fetches and puts there were, and what was written.
+fn outside(alloc: Global, line: &str, fails: (u64, u64, u64)) -> Result<String, Fail> {
+    let mut shelf = MemShelf::new(alloc);
+    shelf.add(
+        Place::Work,
+        b"m.ldr",
+        b"1 16 0 0 0 1 0 0 0 1 0 0 0 1 x.dat",
+    )?;
+    shelf.add(Place::Parts, b"x.dat", b"")?;
+    shelf.fail(fails.0)?;
+    let mut sink = MemSink::new(alloc);
+    sink.fail(fails.1, fails.2)?;
+    let words = words(alloc, line)?;
+    let status = run(alloc, words.as_slice(), &mut shelf, &mut sink);
+    let Ok(bytes) = str::from_utf8(sink.bytes()) else {
+        return Err(Fail::from("bytes that are no text"));
+    };
+    Ok(format!(in alloc; "{} {} {} {bytes}", status.number(), shelf.fetches(), sink.puts())?)
+}
+
+const PART: &str = "0 3 1 part 16 - parts/x.dat at model/m.ldr:1\n";
+
+const FACES: &str = "faces m.ldr";
+
+const COLOURED: &str = "faces m.ldr --colours gone.ldr";
+
+// Each fetch and each put failed in turn: no fault is told as another answer, none is tried again, and nothing is
+// fetched or put that isn't wanted.
+#[test]
+fn the_outside_fails(rt: HostRuntime) -> Result<(), Fail> {
+    for (line, fails, wanted) in [
+        (FACES, (0, 0, 0), PART),
+        (FACES, (1, 0, 0), "4 1 0 "),
+        (FACES, (2, 0, 0), "4 2 0 "),
+        (FACES, (3, 0, 0), "4 3 0 "),
+        (FACES, (4, 2, 0), PART),
+        (FACES, (0, 1, 4), "5 3 1 part"),
+        (FACES, (2, 1, 4), "4 2 0 "),
+        (COLOURED, (0, 0, 0), "3 2 1 absent gone.ldr\n"),
+        (COLOURED, (2, 0, 0), "4 2 0 "),
+        ("faces gone.ldr", (0, 1, 3), "5 1 1 abs"),
+        ("faces", (1, 1, 6), "5 0 1 usage:"),
+    ] {
+        let given = outside(rt.alloc(), line, fails)?;
+        assert_eq!(rt; given.as_str(), wanted, "{line}");
+    }
+    Ok(())
+}
+
+#[test]
+fn folders_and_numbers(rt: HostRuntime) -> Result<(), Fail> {
+    let alloc = rt.alloc();
+    for (text, folder) in [
+        ("faces", "."),
+        ("a/b", "."),
+        ("faces m.ldr", "."),
+        ("faces a\\m.ldr", "."),
+        ("faces a/m.ldr", "a"),
+        ("faces a/b/m.ldr", "a/b"),
+        ("faces a/", "a"),
+        ("faces /m.ldr", "/"),
+        ("faces //m.ldr", "/"),
+        ("replay a/m.ldr b/s", "a"),
+    ] {
+        let words = words(alloc, text)?;
+        assert_eq!(rt; model_folder(words.as_slice()), folder, "{text}");
+    }
+    for (set, wanted) in [
+        (Ok("lib"), Ok("lib")),
+        (Ok(""), Ok("")),
+        (Err(VarError::NotPresent), Ok("ldraw")),
+        (Err(VarError::NotUnicode), Err(Unusable::NotText)),
+        (Err(VarError::OutOfMemory), Err(Unusable::Memory)),
+    ] {
+        let set = match set {
+            Ok(folder) => Ok(String::from_str(alloc, folder)?),
+            Err(error) => Err(error),
+        };
+        match library_folder(alloc, set) {
+            Ok(folder) => assert_eq!(rt; Ok(folder.as_str()), wanted),
+            Err(error) => assert_eq!(rt; Err(error), wanted),
+        }
+    }
+    let mut number = 0;
+    for status in [
+        Status::Done,
+        Status::Faulted,
+        Status::Usage,
+        Status::Input,
+        Status::ReadFault,
+        Status::WriteFault,
+        Status::Memory,
+        Status::Limit,
+    ] {
+        assert_eq!(rt; status.number(), number);
+        number = number.saturating_add(1);
+    }
+    Ok(())
+}
+
+
+fn answer(alloc: Global, file: &[u8]) -> Result<(Status, SureSink), AllocError> {
+    let mut shelf = SureShelf::new(alloc);
+    shelf.add(Place::Work, b"m.ldr", file)?;
+    let mut sink = SureSink::new(alloc);
+    let words = words(alloc, FACES)?;
+    let status = run(alloc, words.as_slice(), &mut shelf, &mut sink);
+    Ok((status, sink))
+}
+
+#[test]
+fn the_greatest_file(rt: HostRuntime) -> Result<(), Fail> {
+    let alloc = rt.alloc();
+    let mut file = vec![in alloc; b' '; 33_554_432]?;
+    let (status, sink) = answer(alloc, file.as_slice())?;
+    assert_eq!(rt; status, Status::Done);
+    assert_eq!(rt; sink.bytes(), b"".as_slice());
+    file.push(b' ')?;
+    let (status, sink) = answer(alloc, file.as_slice())?;
+    assert_eq!(rt; status, Status::Limit);
+    assert_eq!(rt; sink.bytes(), b"toobig m.ldr\n".as_slice());
+
+    // Each empty line weighs 32: 8,388,608 of them weigh all that texts may.
+    for (lines, status, bytes) in [
+        (8_388_608usize, Status::Done, b"".as_slice()),
+        (8_388_609, Status::Limit, b"full weight 0\n"),
+    ] {
+        let file = vec![in alloc; b'\n'; lines]?;
+        let (got, sink) = answer(alloc, file.as_slice())?;
+        assert_eq!(rt; got, status);
+        assert_eq!(rt; sink.bytes(), bytes);
+    }
+    Ok(())
+}
+
+// The definition of the output, by computing.
+fn outputs_by_definition()
+    ensures usage { output (codes "faces" ∷ []) (λ place name. None) ≡ usage }
+    ensures absent { output (codes "faces" ∷ codes "gone.ldr" ∷ []) (λ place name. None) ≡ one_piece (codes "absent gone.ldr\n") Input }
+    ensures rounding { output (codes "faces" ∷ codes "m.ldr" ∷ []) (λ place name. Some (codes "0 FILE m.ldr\n1 16 0 0 0 3 0 0 0 1 0 0 0 1 a\n0 FILE a\n2 24 .4999995 0 0 0 0 0"))
+        ≡ one_piece (codes "line 24 - nocert clip ccw 1.5,0,0 0,0,0 model/a:1\n") Done }
+    ensures folder { model_folder (codes "faces" ∷ codes "a/b/m.ldr" ∷ []) ≡ codes "a/b" }
+    ensures root { model_folder (codes "faces" ∷ codes "/m.ldr" ∷ []) ≡ codes "/" }
+{}

@@ -1,5 +1,6 @@
 -- Printed entries and faults, a line each, which are this project's own.
 use Rattle.std.specs.Prelude.{ℕ, List, [], ◌∷◌, ◌++◌, Option, Some, None, codes, map, take}
+use Rattle.std.specs.List.{flat_map}
 use Rattle.ld_names.specs.Standing.{Known}
 use Rattle.ld_line.specs.Kind.{points_in}
 use Rattle.ld_line.specs.Reading.{line_of}
@@ -23,6 +24,9 @@ entry_words known table (Part file colour source) =
 
 unfoldable pub entry_text : Known → Counting → Entry → List ℕ
 entry_text known table entry = line_text (entry_words known table entry)
+
+abbrev pub entries_text : Known → Counting → List Entry → List ℕ
+entries_text known table entries = flat_map (entry_text known table) entries
 
 abbrev pub what_text : What → List ℕ
 what_text Missing = codes "missing"

@@ -1,2 +1,5 @@
 pub mod Pieces
 pub mod Entries
+pub mod Parts
+pub mod Counting
+pub mod Steps

@@ -2,7 +2,7 @@ ghost use Rattle.std.specs.Prelude.{◌≡◌, ◌++◌, codes, OnOk};
 ghost use Rattle.std.specs.List.{flat_map};
 ghost use Rattle.ld_colour.specs.Table.{counting};
 ghost use Rattle.ld_texts.specs.Known.{file_at};
-ghost use Rattle.ld_report.specs.Entries.{entry_text};
+ghost use Rattle.ld_report.specs.Entries.{entries_text, entry_text};
 ghost use Rattle.ld_report.specs.Pieces.{certified_text, clip_text, kind_text, numbered_text, point_text, source_text, winding_text};
 
 use crate::pieces::{print_file, print_head, print_point, print_source};
@@ -63,6 +63,25 @@ pub fn print_entry(
             Ok(())
         }
     }
+}
+
+/// Appends entries, each as one line.
+///
+/// # Errors
+///
+/// Want of memory. What was appended up to then stands.
+pub fn print_entries(
+    texts: &Texts,
+    table: &Table,
+    entries: &[Entry],
+    into: &mut Vec<u8>,
+) -> Result<(), AllocError>
+    ensures ok { OnOk result (into.new.items ≡ into.old.items ++ entries_text texts.now.known (counting table.now) entries.now) }
+{
+    for entry in entries {
+        print_entry(texts, table, entry, into)?;
+    }
+    Ok(())
 }
 
 fn print_part(texts: &Texts, file: TextId, into: &mut Vec<u8>) -> Result<(), AllocError>

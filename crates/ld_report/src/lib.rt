@@ -1,11 +1,16 @@
-//! The printed texts of an LDraw model's expansion: its entries and its faults.
+//! The printed texts of an LDraw model's expansion: its entries and steps, its faults and its parts
+//! list.
 #![tactic(auto)]
 
 mod entry;
 mod fault;
+mod parts;
 mod pieces;
+mod steps;
 #[cfg(test)]
 mod tests;
 
-pub use entry::print_entry;
+pub use entry::{print_entries, print_entry};
 pub use fault::print_fault;
+pub use parts::{PartCount, parts_list, print_parts};
+pub use steps::print_steps;

@@ -14,16 +14,16 @@ use ld_texts::Texts;
 use std::alloc::AllocError;
 
 #[tactic(auto, unfolding(ld_line::specs::Printing::direct_text))]
-fn print_colour(colour: Colour, into: &mut Vec<u8>) -> Result<(), AllocError>
+pub(crate) fn print_colour(colour: Colour, into: &mut Vec<u8>) -> Result<(), AllocError>
     ensures { OnOk result (into.new.items ≡ into.old.items ++ colour_text colour) }
 {
     match colour {
         Colour::Main => into.extend_from_slice(b"16"),
         Colour::Edge => into.extend_from_slice(b"24"),
-        Colour::Code(code) => print_number(code, into),
+        Colour::Code(code) => print_number(u64::from(code), into),
         Colour::EdgeOf(code) => {
             into.push(b'e')?;
-            print_number(code, into)
+            print_number(u64::from(code), into)
         }
         Colour::Direct(value) => {
             let [a, b, c, d, e, f] = six_hex(value);
@@ -85,7 +85,7 @@ fn hex_digit(digit: u32) -> u8
     }
 }
 
-pub(crate) fn print_number(number: u32, into: &mut Vec<u8>) -> Result<(), AllocError>
+pub(crate) fn print_number(number: u64, into: &mut Vec<u8>) -> Result<(), AllocError>
     ensures { OnOk result (into.new.items ≡ into.old.items ++ decimal number) }
 {
     into.extend_from_slice(Buffer::new().format(number).as_bytes())
@@ -130,5 +130,5 @@ pub(crate) fn print_source(
 {
     print_file(texts, source.text, into)?;
     into.push(b':')?;
-    print_number(source.line, into)
+    print_number(u64::from(source.line), into)
 }

@@ -1,11 +1,12 @@
-//! Printed entries and faults.
+//! Printed entries, faults, parts lists and steps.
 use crate::entry::NO_POINTS;
-use crate::{print_entry, print_fault};
+use crate::{parts_list, print_entry, print_fault, print_parts, print_steps};
 use ld_colour::{Colour, Table};
 use ld_entry::{Entry, Fault, Source, What};
-use ld_line::{Kind, Line, Winding, lines_of, read_line};
-use ld_names::{FileId, Folder, TextId, normal};
+use ld_line::{Kind, Line, RotWord, Winding, lines_of, read_line};
+use ld_names::{FileId, Folder, List, TextId, normal};
 use ld_num::Point;
+use ld_steps::{StepPart, Turn};
 use ld_texts::Texts;
 use std::alloc::Global;
 use std::test::Fail;
@@ -43,6 +44,29 @@ malformed|0|3 => fault malformed model/my car.ldr:3
 toomany|2|4 => fault toomany p/stud.dat:4
 missing|0|2 => fault missing model/my car.ldr:2
 cycle|0|4 => fault cycle model/my car.ldr:4";
+
+// Parts in their colours, or what is drawn; and the printed parts list, whose lines end at `/ `.
+const PARTS: &str =
+    "1:4 1:4 1:4 1:14 1:14 1:1 1:1 1:1 1:1 1:4 1:4 1:1 => 5 4 parts/3001.dat/ 2 14 parts/3001.dat/ 5 1 parts/3001.dat/ 
+2:m drawn 1:m 2:e4 drawn 2:4 2:e4 1:m 2:d5 => 1 16 p/stud.dat/ 2 16 parts/3001.dat/ 2 e4 p/stud.dat/ 1 4 p/stud.dat/ 1 0x2000005 p/stud.dat/ 
+drawn => ";
+
+// Drawn entries, and steps by their range among them and the lines that turn their views; and the
+// printed steps, whose lines end at `/ `.
+const STEPPED: &str = "m|nocert clip ccw|0|1|2 24 0 0 0 1 0 0
+m|nocert clip ccw|1|1|2 24 0 0 0 3 0 0
+m|nocert clip ccw|1|3|2 24 0 0 0 4 0 0
+m|nocert clip ccw|0|8|2 24 0 0 0 2 0 0";
+
+const STEPS: &str =
+    "0..1| => step 1 entries 1 view -/ line 16 - nocert clip ccw 0,0,0 1,0,0 model/my car.ldr:1/ 
+1..1| => step 2 entries 0 view -/ 
+1..1|0 ROTSTEP 0 45 0 REL => step 3 entries 0 view rel:0,45,0/ 
+1..1|0 ROTSTEP 0 45 0 REL; 0 ROTSTEP 10 0 0 ADD => step 4 entries 0 view rel:0,45,0 rel:10,0,0/ 
+1..3| => step 5 entries 2 view -/ line 16 - nocert clip ccw 0,0,0 3,0,0 parts/3001.dat:1/ line 16 - nocert clip ccw 0,0,0 4,0,0 parts/3001.dat:3/ 
+3..4| => step 6 entries 1 view -/ line 16 - nocert clip ccw 0,0,0 2,0,0 model/my car.ldr:8/ 
+3..6|0 ROTSTEP 1.5 -2 .25 ABS => step 7 entries 3 view abs:1.5,-2,0.25/ line 16 - nocert clip ccw 0,0,0 2,0,0 model/my car.ldr:8/ 
+5..7| => step 8 entries 2 view -/ ";
 
 fn learn(
     alloc: Global,
@@ -197,6 +221,121 @@ fn faults_are_printed(rt: HostRuntime) -> Result<(), Fail> {
         wanted.extend_from_slice(want.as_bytes())?;
         wanted.push(b'\n')?;
     }
+    assert_eq!(rt; printed.as_slice(), wanted.as_slice());
+    Ok(())
+}
+
+// The lines of a row, each ended by a line feed.
+fn append_lines(row: &str, into: &mut Vec<u8>) -> Result<(), Fail> {
+    for line in row.split("/ ") {
+        if !line.is_empty() {
+            into.extend_from_slice(line.as_bytes())?;
+            into.push(b'\n')?;
+        }
+    }
+    Ok(())
+}
+
+fn used(alloc: Global, word: &str) -> Result<Entry, Fail> {
+    match word.split_once(":") {
+        Some((file, colour)) => Ok(Entry::Part {
+            file: TextId(file.parse::<u32>()?),
+            colour: colour_of(colour)?,
+            source: source_of("0", "1")?,
+        }),
+        None => entry_of(alloc, "4|cert clip ccw|1|1|2 24 0 0 0 1 0 0"),
+    }
+}
+
+#[test]
+fn parts_are_counted_and_printed(rt: HostRuntime) -> Result<(), Fail> {
+    let alloc = rt.alloc();
+    let texts = known(alloc)?;
+    let _: [Point; 0] = NO_POINTS;
+    for row in PARTS.lines() {
+        let (uses, want) = row.split_once(" => ").ok_or("a row without =>")?;
+        let mut entries = Vec::new(alloc);
+        for word in uses.split(" ") {
+            entries.push(used(alloc, word)?)?;
+        }
+        assert!(rt; entries.len() < 100);
+        let parts = parts_list(alloc, entries.as_slice())?;
+        let mut printed = Vec::new(alloc);
+        print_parts(&texts, &parts, &mut printed)?;
+        let mut wanted = Vec::new(alloc);
+        append_lines(want, &mut wanted)?;
+        assert_eq!(rt; printed.as_slice(), wanted.as_slice(), "{uses}");
+    }
+    Ok(())
+}
+
+fn turn_of(line: Line) -> Option<Turn> {
+    match line {
+        Line::Rot(RotWord::Abs(angles)) => Some(Turn {
+            absolute: true,
+            angles,
+        }),
+        Line::Rot(RotWord::Rel(angles) | RotWord::Add(angles)) => Some(Turn {
+            absolute: false,
+            angles,
+        }),
+        Line::Ref { name, .. } => {
+            drop(name);
+            None
+        }
+        Line::Rot(RotWord::End)
+        | Line::Blank
+        | Line::Comment
+        | Line::Org(_)
+        | Line::Bfc(_)
+        | Line::Step
+        | Line::Draw { .. }
+        | Line::Malformed
+        | Line::OutOfRange => None,
+    }
+}
+
+fn step_of(alloc: Global, row: &str) -> Result<StepPart, Fail> {
+    let (range, turns) = row.split_once("|").ok_or("no turns")?;
+    let (first, end) = range.split_once("..").ok_or("no range")?;
+    let mut view = List::new(alloc);
+    for line in turns.split("; ") {
+        if let Some(turn) = turn_of(read_line(alloc, line.as_bytes())?) {
+            view.push(turn)?;
+        }
+    }
+    Ok(StepPart {
+        first: first.parse::<u32>()?,
+        end: end.parse::<u32>()?,
+        view,
+    })
+}
+
+#[test]
+fn steps_are_printed(rt: HostRuntime) -> Result<(), Fail> {
+    let alloc = rt.alloc();
+    let texts = known(alloc)?;
+    let table = Table::empty(alloc);
+    let _: [Point; 0] = NO_POINTS;
+    let mut entries = Vec::new(alloc);
+    for row in STEPPED.lines() {
+        entries.push(entry_of(alloc, row)?)?;
+    }
+    let mut steps = Vec::new(alloc);
+    let mut wanted = Vec::new(alloc);
+    for row in STEPS.lines() {
+        let (step, want) = row.split_once(" => ").ok_or("a row without =>")?;
+        steps.push(step_of(alloc, step)?)?;
+        append_lines(want, &mut wanted)?;
+    }
+    let mut printed = Vec::new(alloc);
+    print_steps(
+        &texts,
+        &table,
+        entries.as_slice(),
+        steps.as_slice(),
+        &mut printed,
+    )?;
     assert_eq!(rt; printed.as_slice(), wanted.as_slice());
     Ok(())
 }
