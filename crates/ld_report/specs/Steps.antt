@@ -1,6 +1,5 @@
 -- Printed steps, which are this project's own: a line for each step, and the lines of its entries behind it.
 use Rattle.std.specs.Prelude.{ℕ, ◌+◌, ◌-◌, Bool, true, false, List, [], ◌∷◌, ◌++◌, codes, decimal, drop, map, take}
-use Rattle.std.specs.List.{flat_map}
 use Rattle.ld_num.specs.Text.{dec_text}
 use Rattle.ld_names.specs.Standing.{Known}
 use Rattle.ld_line.specs.declared.line.Angles.{Angles}

@@ -2,7 +2,7 @@ ghost use Rattle.std.specs.Prelude.{◌≡◌, ◌++◌, ◌-◌, codes, OnOk};
 ghost use Rattle.std.specs.List.{flat_map};
 ghost use Rattle.ld_colour.specs.Table.{counting};
 ghost use Rattle.ld_report.specs.Pieces.{line_text};
-ghost use Rattle.ld_report.specs.Steps.{entries_in, step_text, step_words, steps_text, turn_text, turn_word, view_words};
+ghost use Rattle.ld_report.specs.Steps.{entries_in, step_words, steps_text, turn_text, turn_word, view_words};
 
 use crate::entry::print_entries;
 use crate::pieces::{print_number, print_point};
