@@ -21,16 +21,15 @@ use Rattle.ld_cmd.specs.Querying.{Queried, Queries, answer_at, answer_queried, a
 use Rattle.ld_cmd.specs.Querying as query
 
 module _ (limits : Limits) (files : Files) (root : FileId) (colour : Colour) (old new : Known) (stands : StandsForRoots) (distinct : AreDistinct new) where
-
   answered : (given : Result Answer LineFault) → learning limits files root old ≡ learnt new → IsAnswered limits root colour new given → Queries limits files root colour old new (answered_as given)
   answered given told is =
-    let texts = stands new (text_on files) distinct root is.id is.number is.nothing_wanted limits.depth limits.entries colour in
-    let there = ap (λ text. where_there (λ id. answered_as (answer_at limits files colour new id)) text (id_of new root)) is.there.1 in
-    let number = ap (λ id. where_there (λ id. answered_as (answer_at limits files colour new id)) (Some (Some is.there.0)) id) is.number in
-    record {
-      known = ap (λ all. all.known) told;
-      is = ap (λ all. queried limits files root colour all) told ∙ there ∙ number ∙ ap answered_as (texts ∙ is.answer);
-    }
+      let texts = stands new (text_on files) distinct root is.id is.number is.nothing_wanted limits.depth limits.entries colour in
+      let there = ap (λ text. where_there (λ id. answered_as (answer_at limits files colour new id)) text (id_of new root)) is.there.1 in
+      let number = ap (λ id. where_there (λ id. answered_as (answer_at limits files colour new id)) (Some (Some is.there.0)) id) is.number in
+      record {
+        known = ap (λ all. all.known) told;
+        is = ap (λ all. queried limits files root colour all) told ∙ there ∙ number ∙ ap answered_as (texts ∙ is.answer);
+      }
 
   pub query-told : (result : Result Answer AnswerError) → Answers limits root colour new result → AnswersTold limits files root old new result → IfSome (answer_queried result) (λ given. Queries limits files root colour old new given)
   query-told (Ok answer) is told = answered (Ok answer) told is
@@ -38,10 +37,10 @@ module _ (limits : Limits) (files : Files) (root : FileId) (colour : Colour) (ol
   query-told (Err (TooBig file)) is told = record { known = ap (λ all. all.known) told; is = ap (λ all. queried limits files root colour all) told }
   query-told (Err (Full over)) is told = record { known = ap (λ all. all.known) told; is = ap (λ all. queried limits files root colour all) told }
   query-told (Err NoRoot) is told =
-    record {
-      known = ap (λ all. all.known) told;
-      is = ap (λ all. queried limits files root colour all) told ∙ ap (λ text. where_there (λ id. answered_as (answer_at limits files colour new id)) text (id_of new root)) is.1;
-    }
+      record {
+        known = ap (λ all. all.known) told;
+        is = ap (λ all. queried limits files root colour all) told ∙ ap (λ text. where_there (λ id. answered_as (answer_at limits files colour new id)) text (id_of new root)) is.1;
+      }
   query-told (Err ReadFault) is told = tt
   query-told (Err Memory) is told = tt
 

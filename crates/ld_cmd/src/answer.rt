@@ -74,11 +74,7 @@ fn print_with_steps(
     Ok(text)
 }
 
-fn print_parts_list(
-    alloc: Global,
-    texts: &Texts,
-    entries: &[Entry],
-) -> Result<Vec<u8>, AllocError>
+fn print_parts_list(alloc: Global, texts: &Texts, entries: &[Entry]) -> Result<Vec<u8>, AllocError>
     requires { length entries.now < 2 ^ 32 }
     ensures { IfOk result (λ text. text.items ≡ parts_text texts.now.known (parts_of entries.now)) }
 {
@@ -94,5 +90,10 @@ fn print_summary(alloc: Global, answer: &Answer) -> Result<Vec<u8>, AllocError>
 {
     let entries = answer.entries.as_slice();
     let parts = parts_list(alloc, entries)?;
-    summary(alloc, entries.len(), parts.len(), answer.steps.as_slice().len())
+    summary(
+        alloc,
+        entries.len(),
+        parts.len(),
+        answer.steps.as_slice().len(),
+    )
 }

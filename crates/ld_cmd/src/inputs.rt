@@ -17,11 +17,7 @@ use std::alloc::Global;
 pub(crate) const FILE_BYTES: u32 = 33_554_432;
 
 // The bytes of the file that a word names.
-pub(crate) fn read_input<S: Shelf>(
-    alloc: Global,
-    word: &[u8],
-    shelf: &mut S,
-) -> Result<Bytes, Stop>
+pub(crate) fn read_input<S: Shelf>(alloc: Global, word: &[u8], shelf: &mut S) -> Result<Bytes, Stop>
     ensures told { IfSome (S.files shelf.old) (λ files. Gives (λ bytes. bytes) (input word.now (files Place.Work word.now)) result) }
     ensures size { IfOk result (λ bytes. length bytes ≤ file_bytes) }
     ensures goes_on { result ≢ Err Stop.Usage }

@@ -56,9 +56,7 @@ pub(crate) fn about_limit(alloc: Global, over: Over) -> Stop
     ensures no_fault { result ≢ Stop.ReadFault }
 {
     match over {
-        Over::Files(kept) => {
-            about_number(alloc, b"full files ", u64::from(kept), Status::Limit)
-        }
+        Over::Files(kept) => { about_number(alloc, b"full files ", u64::from(kept), Status::Limit) }
         Over::Weight(kept) => about_number(alloc, b"full weight ", kept, Status::Limit),
     }
 }

@@ -9,9 +9,9 @@ ghost use Rattle.ld_words.specs.Words.{IsBounded};
 ghost use Rattle.ld_cmd.specs.Made.{IsFaulty, Makes};
 ghost use Rattle.ld_cmd.specs.Output.{after_slash, answered_intent, commanded, generated_output, limits_of, name_or_default, output, own_name, request_of, shown_output};
 
+use crate::answer::Shown;
 use crate::generator::generate;
 use crate::inputs::{read_input, read_table};
-use crate::answer::Shown;
 use crate::made::{Made, Stop};
 use crate::model::show_model;
 use ld_io::Shelf;
@@ -42,11 +42,7 @@ pub(crate) fn make_output<S: Shelf>(
 }
 
 #[tactic(auto, using(crate::proofs::Bounds::limits_are_good))]
-fn make_request<S: Shelf>(
-    alloc: Global,
-    request: &Request,
-    shelf: &mut S,
-) -> Result<Made, Stop>
+fn make_request<S: Shelf>(alloc: Global, request: &Request, shelf: &mut S) -> Result<Made, Stop>
     requires bounds { IsBounded (intent_shown request.now) }
     ensures told { IfSome (S.files shelf.old) (λ files. Makes (commanded (answered_intent (Some (intent_shown request.now))) files) result) }
     ensures faulty { answered_intent (Some (intent_shown request.now)) ≡ None → IsFaulty result }

@@ -12,9 +12,9 @@ ghost use Rattle.ld_cmd.specs.Made.{Gives, Makes};
 ghost use Rattle.ld_cmd.specs.Output.{Output, file_bytes, limits_of, loaded_by, main_output, model_output, queried_output, shown_text};
 ghost use Rattle.ld_cmd.specs.Querying.{answer_queried};
 
+use crate::answer::{Shown, print_answer};
 use crate::inputs::FILE_BYTES;
 use crate::lines::{about_file, about_limit};
-use crate::answer::{Shown, print_answer};
 use crate::made::{Made, Stop};
 use crate::query::ask;
 use crate::status::Status;

@@ -444,11 +444,7 @@ fn own_names_of_models(rt: HostRuntime) -> Result<(), Fail> {
 // the number of the status, how many fetches and puts there were, and what was written.
 fn outside(alloc: Global, line: &str, fails: (u64, u64, u64)) -> Result<String, Fail> {
     let mut shelf = MemShelf::new(alloc);
-    shelf.add(
-        Place::Work,
-        b"m.ldr",
-        b"1 16 0 0 0 1 0 0 0 1 0 0 0 1 x.dat",
-    )?;
+    shelf.add(Place::Work, b"m.ldr", b"1 16 0 0 0 1 0 0 0 1 0 0 0 1 x.dat")?;
     shelf.add(Place::Parts, b"x.dat", b"")?;
     shelf.fail(fails.0)?;
     let mut sink = MemSink::new(alloc);
@@ -458,7 +454,12 @@ fn outside(alloc: Global, line: &str, fails: (u64, u64, u64)) -> Result<String, 
     let Ok(bytes) = str::from_utf8(sink.bytes()) else {
         return Err(Fail::from("bytes that are no text"));
     };
-    Ok(format!(in alloc; "{} {} {} {bytes}", status.number(), shelf.fetches(), sink.puts())?)
+    Ok(format!(in alloc;
+        "{} {} {} {bytes}",
+        status.number(),
+        shelf.fetches(),
+        sink.puts()
+    )?)
 }
 
 const PART: &str = "0 3 1 part 16 - parts/x.dat at model/m.ldr:1\n";
@@ -540,7 +541,6 @@ fn folders_and_numbers(rt: HostRuntime) -> Result<(), Fail> {
     }
     Ok(())
 }
-
 
 fn answer(alloc: Global, file: &[u8]) -> Result<(Status, SureSink), AllocError> {
     let mut shelf = SureShelf::new(alloc);
