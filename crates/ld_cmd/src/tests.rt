@@ -1,8 +1,8 @@
 //! Worked runs of the command, over files in memory.
-ghost use Rattle.std.specs.Prelude.{◌≡◌, [], ◌∷◌, None, Some, codes};
+ghost use Rattle.std.specs.Prelude.{◌≡◌, [], ◌∷◌, None, codes};
 ghost use Rattle.ld_cmd.specs.Folders.{model_folder};
 ghost use Rattle.ld_cmd.specs.Output.{one_piece, output, usage};
-ghost use Rattle.ld_cmd.specs.declared.status.Status.TheVariants.{Done, Input};
+ghost use Rattle.ld_cmd.specs.declared.status.Status.TheVariants.{Input};
 
 use crate::folders::{Unusable, library_folder, model_folder};
 use crate::{Status, run};
@@ -580,8 +580,6 @@ fn the_greatest_file(rt: HostRuntime) -> Result<(), Fail> {
 fn outputs_by_definition()
     ensures usage { output (codes "faces" ∷ []) (λ place name. None) ≡ usage }
     ensures absent { output (codes "faces" ∷ codes "gone.ldr" ∷ []) (λ place name. None) ≡ one_piece (codes "absent gone.ldr\n") Input }
-    ensures rounding { output (codes "faces" ∷ codes "m.ldr" ∷ []) (λ place name. Some (codes "0 FILE m.ldr\n1 16 0 0 0 3 0 0 0 1 0 0 0 1 a\n0 FILE a\n2 24 .4999995 0 0 0 0 0"))
-        ≡ one_piece (codes "line 24 - nocert clip ccw 1.5,0,0 0,0,0 model/a:1\n") Done }
     ensures folder { model_folder (codes "faces" ∷ codes "a/b/m.ldr" ∷ []) ≡ codes "a/b" }
     ensures root { model_folder (codes "faces" ∷ codes "/m.ldr" ∷ []) ≡ codes "/" }
 {}
