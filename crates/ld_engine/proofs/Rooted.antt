@@ -1,6 +1,6 @@
 -- A root is expanded line by line.
-use Rattle.std.proofs.Common.{◌≡◌, ◌≤◌, ◌<◌, ◌+◌, ℕ, zero, suc, List, [], ◌∷◌, ◌++◌, length, map, take, drop, Some, None, Ok, Err, refl, ap, sym, ◌∙◌, append_assoc, arith}
-use Rattle.std.specs.Prelude.{slice_get}
+use Rattle.std.proofs.Common.{◌≡◌, ◌≤◌, ◌<◌, ◌+◌, ◌⊎◌, inl, inr, true, false, ℕ, zero, suc, List, [], ◌∷◌, ◌++◌, length, map, take, drop, Option, Some, None, Ok, Err, refl, ap, sym, ◌∙◌, append_assoc, arith}
+use Rattle.std.specs.Prelude.{is_some, slice_get}
 use Rattle.std.proofs.lemmas.List.{append-nil, length-append, length-map}
 use Rattle.ld_names.specs.declared.file.TextId.{TextId}
 use Rattle.ld_line.specs.declared.line.Line.{Line}
@@ -93,14 +93,20 @@ module _ (most left : ℕ) (texts : NumberedTexts) (root : TextId) where
           ∙ sym (append_assoc (map Ok entries) (line_gives ++ concatenation (lines_left after (number + 1))) behind)
           ∙ ap (λ ls. (map Ok entries ++ concatenation ls) ++ behind) (sym left-is) ∙ ap (λ os. os ++ behind) so_far.1
 
-      pub root-faulted : (fault : Fault) → Gathers most entries new (Some fault) line_gives → Gathers most [] new (Some fault) (all left here)
+      root-faulted : (fault : Fault) → Gathers most entries new (Some fault) line_gives → Gathers most [] new (Some fault) (all left here)
       root-faulted fault gives behind =
           gives (concatenation (lines_left after (number + 1)) ++ behind) ∙ ap (cut most) (behind-is behind)
 
-      pub root-full : most < length new → Gathers most entries new None line_gives → Gathers most [] new None (all left here)
+      root-full : most < length new → Gathers most entries new None line_gives → Gathers most [] new None (all left here)
       root-full many gives behind =
           let more = concatenation (lines_left after (number + 1)) ++ behind in
           full most new behind more many ∙ gives more ∙ ap (cut most) (behind-is behind)
+
+      -- a fault or an entry too many stops the root
+      pub root-stopped : (end : Option Fault) → (is_some end ≡ true) ⊎ (most < length new) → Gathers most entries new end line_gives → Gathers most [] new end (all left here)
+      root-stopped (Some fault) stop gives = root-faulted fault gives
+      root-stopped None (inl some) gives = cc
+      root-stopped None (inr many) gives = root-full many gives
 
       pub root-passed : (count : ℕ) → count ≡ length new → length new ≤ most → Gathers most entries new None line_gives → IsRooted new (ends ++ count ∷ []) after (number + 1)
       root-passed count is few gives =
@@ -137,3 +143,7 @@ all-taken [] zero none = refl
 all-taken [] (suc n) none = refl
 all-taken (x ∷ xs) zero none = cc
 all-taken (x ∷ xs) (suc n) none = ap (λ ys. x ∷ ys) (all-taken xs n none)
+
+pub no-end : (end : Option Fault) → is_some end ≡ false → end ≡ None
+no-end None none = refl
+no-end (Some fault) none = cc

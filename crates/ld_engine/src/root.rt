@@ -56,10 +56,14 @@ pub(crate) fn expand_root(
     ensures ends { IfOk result (λ given. given.end ≡ None → length given.entries.items ≤ most →
         given.line_ends.items ≡ 0 ∷ line_ends 0 (map length (all_by_line left (alone (known_texts texts.now.known) [] root)))) }
 {
-    let mut way = SmallVec::new(alloc);
-    let mut entries = Vec::new(alloc);
     let mut line_ends = Vec::with_capacity(alloc, lines.len() + 1)?;
     line_ends.push(0)?;
+    let mut given = RootExpansion {
+        entries: Vec::new(alloc),
+        line_ends,
+        end: None,
+    };
+    let mut way = SmallVec::new(alloc);
     let mut state = start(is_part(texts, root));
     let mut number: u32 = 0;
     let mut rest = lines.into_iter();
@@ -70,37 +74,15 @@ pub(crate) fn expand_root(
             line: number,
         };
         let after = next(state, &line);
-        let end = expand_line(
-            alloc,
-            texts,
-            &mut way,
-            left,
-            most,
-            state,
-            source,
-            line,
-            &mut entries,
+        let entries = &mut given.entries;
+        given.end = expand_line(
+            alloc, texts, &mut way, left, most, state, source, line, entries,
         )?;
-        if let Some(fault) = end {
-            return Ok(RootExpansion {
-                entries,
-                line_ends,
-                end: Some(fault),
-            });
+        if given.end.is_some() || given.entries.len() > most as usize {
+            return Ok(given);
         }
-        if entries.len() > most as usize {
-            return Ok(RootExpansion {
-                entries,
-                line_ends,
-                end: None,
-            });
-        }
-        line_ends.push(entries.len() as u32)?;
+        given.line_ends.push(given.entries.len() as u32)?;
         state = after;
     }
-    Ok(RootExpansion {
-        entries,
-        line_ends,
-        end: None,
-    })
+    Ok(given)
 }

@@ -1,11 +1,12 @@
-use Rattle.std.proofs.Common.{◌≡◌, ◌<◌, ◌≤◌, ◌+◌, ◌∷◌, ◌++◌, [], Some, None, length, ap, sym, subst, ◌∙◌, arith}
+use Rattle.std.proofs.Common.{◌≡◌, ◌≤◌, ◌+◌, ◌∷◌, ◌++◌, inl, inr, [], None, length, refl, ap, sym, subst, ◌∙◌, arith}
 use Rattle.std.specs.Vec.Iter.{into_iter_items}
 use Rattle.ld_bfc.specs.LineState.{start}
 use Rattle.ld_entry.specs.NumberedTexts.{known_texts}
 use Rattle.ld_entry.specs.Outcomes.{line_outcomes}
 use Rattle.ld_engine.specs.Gathering.{Gathers, alone, enter_with}
-use Rattle.ld_engine.proofs.Rooted.{IsRooted, next-line, root-begun, root-faulted, root-full, root-passed}
+use Rattle.ld_engine.proofs.Rooted.{IsRooted, next-line, no-end, root-begun, root-passed, root-stopped}
 use Rattle.ld_engine.proofs.root.expand_root.Goals as goal
+use Rattle.ld_engine.proofs.root.expand_root.Goals.{then-is_some-via-then-is_some, then-is_some-via-else-is_some+then-len-most}
 
 pub loop-line-init : goal.loop-line-init
 loop-line-init c =
@@ -16,35 +17,35 @@ loop-line-init c =
     record {
       way = c.new-way.ensures.items;
       left = c.into_iter-rest.ensures.rest ∙ c.requires.read;
-      rooted = subst (λ es. IsRooted c.args.most c.args.left texts c.args.root es c.push.new.self.items c.start-state.result 0) (sym c.new-entries.ensures.items) (subst (λ ends. IsRooted c.args.most c.args.left texts c.args.root [] ends c.start-state.result 0) (sym ends) begun);
+      endless = refl;
+      rooted = subst (λ es. IsRooted c.args.most c.args.left texts c.args.root es c.push.new.self.items c.start-state.result 0) (sym c.new.ensures.items) (subst (λ ends. IsRooted c.args.most c.args.left texts c.args.root [] ends c.start-state.result 0) (sym ends) begun);
     }
 
-pub returns-in-Some-end-clause-gathers : goal.returns-in-Some-end-clause-gathers
-returns-in-Some-end-clause-gathers c =
+pub returns-then-is_some-clause-gathers : goal.returns-then-is_some-clause-gathers
+returns-then-is_some-clause-gathers c =
     let texts = known_texts c.args.texts.now.known in
+    let given = c.loop-line.given in
+    let new = c.expand_line.new.entries.items in
+    let end = c.in_ok-given.field-0 in
     let at = next-line (texts.lines c.args.root) c.loop-line.number c.in-Some.line (into_iter_items c.next.new.self) (sym c.loop-line.invariant.left ∙ c.in-Some.ensures.cases.0) in
-    let gives : Gathers c.args.most c.loop-line.entries.items c.expand_line.new.entries.items (Some c.in-Some-end.fault) (line_outcomes (enter_with c.args.left) (alone texts [] c.args.root) c.loop-line.state (record { text = c.args.root; line = c.loop-line.number + 1 }) c.in-Some.line) = subst (λ w. Gathers c.args.most c.loop-line.entries.items c.expand_line.new.entries.items (Some c.in-Some-end.fault) (line_outcomes (enter_with c.args.left) (alone texts w c.args.root) c.loop-line.state (record { text = c.args.root; line = c.loop-line.number + 1 }) c.in-Some.line)) c.loop-line.invariant.way (rw c.in-Some-end.is at c.in_ok-end.ensures.gathers) in
-    root-faulted c.args.most c.args.left texts c.args.root c.loop-line.entries.items c.loop-line.line_ends.items c.loop-line.state c.loop-line.number c.loop-line.invariant.rooted c.expand_line.new.entries.items c.next-after.result c.in-Some.line at.0 c.next-after.ensures c.in-Some-end.fault gives
-
-pub returns-then-len-most-clause-gathers : goal.returns-then-len-most-clause-gathers
-returns-then-len-most-clause-gathers c =
-    let texts = known_texts c.args.texts.now.known in
-    let many : c.args.most < length c.expand_line.new.entries.items = omega arith in
-    let at = next-line (texts.lines c.args.root) c.loop-line.number c.in-Some.line (into_iter_items c.next.new.self) (sym c.loop-line.invariant.left ∙ c.in-Some.ensures.cases.0) in
-    let gives : Gathers c.args.most c.loop-line.entries.items c.expand_line.new.entries.items None (line_outcomes (enter_with c.args.left) (alone texts [] c.args.root) c.loop-line.state (record { text = c.args.root; line = c.loop-line.number + 1 }) c.in-Some.line) = subst (λ w. Gathers c.args.most c.loop-line.entries.items c.expand_line.new.entries.items None (line_outcomes (enter_with c.args.left) (alone texts w c.args.root) c.loop-line.state (record { text = c.args.root; line = c.loop-line.number + 1 }) c.in-Some.line)) c.loop-line.invariant.way (rw c.in_default-end.is at c.in_ok-end.ensures.gathers) in
-    root-full c.args.most c.args.left texts c.args.root c.loop-line.entries.items c.loop-line.line_ends.items c.loop-line.state c.loop-line.number c.loop-line.invariant.rooted c.expand_line.new.entries.items c.next-after.result c.in-Some.line at.0 c.next-after.ensures many gives
+    let gives : Gathers c.args.most given.entries.items new end (line_outcomes (enter_with c.args.left) (alone texts [] c.args.root) c.loop-line.state (record { text = c.args.root; line = c.loop-line.number + 1 }) c.in-Some.line) = subst (λ w. Gathers c.args.most given.entries.items new end (line_outcomes (enter_with c.args.left) (alone texts w c.args.root) c.loop-line.state (record { text = c.args.root; line = c.loop-line.number + 1 }) c.in-Some.line)) c.loop-line.invariant.way c.in_ok-given.ensures.gathers in
+    root-stopped c.args.most c.args.left texts c.args.root given.entries.items given.line_ends.items c.loop-line.state c.loop-line.number c.loop-line.invariant.rooted new c.next-after.result c.in-Some.line at.0 c.next-after.ensures end (elim c.then-is_some.branch [ then-is_some-via-then-is_some w ↦ inl (sym c.is_some.ensures ∙ w.if-is_some.true) | then-is_some-via-else-is_some+then-len-most w ↦ inr (omega arith) ]) gives
 
 pub loop-line-preserved : goal.loop-line-preserved
 loop-line-preserved c =
     let texts = known_texts c.args.texts.now.known in
-    let few : length c.expand_line.new.entries.items ≤ c.args.most = omega arith in
+    let given = c.loop-line.given in
+    let new = c.expand_line.new.entries.items in
+    let few : length new ≤ c.args.most = omega arith in
+    let endless : c.in_ok-given.field-0 ≡ None = no-end c.in_ok-given.field-0 (sym c.is_some.ensures ∙ c.if-is_some.false) in
     let at = next-line (texts.lines c.args.root) c.loop-line.number c.in-Some.line (into_iter_items c.next.new.self) (sym c.loop-line.invariant.left ∙ c.in-Some.ensures.cases.0) in
-    let gives : Gathers c.args.most c.loop-line.entries.items c.expand_line.new.entries.items None (line_outcomes (enter_with c.args.left) (alone texts [] c.args.root) c.loop-line.state (record { text = c.args.root; line = c.loop-line.number + 1 }) c.in-Some.line) = subst (λ w. Gathers c.args.most c.loop-line.entries.items c.expand_line.new.entries.items None (line_outcomes (enter_with c.args.left) (alone texts w c.args.root) c.loop-line.state (record { text = c.args.root; line = c.loop-line.number + 1 }) c.in-Some.line)) c.loop-line.invariant.way (rw c.in_default-end.is at c.in_ok-end.ensures.gathers) in
-    let ends : c.push-in-Some.new.self.items ≡ c.loop-line.line_ends.items ++ c.len-in-Some-2.result ∷ [] = c.in_ok-push-2.ensures.items in
-    let count : c.len-in-Some-2.result ≡ length c.expand_line.new.entries.items = omega arith in
-    let passed = root-passed c.args.most c.args.left texts c.args.root c.loop-line.entries.items c.loop-line.line_ends.items c.loop-line.state c.loop-line.number c.loop-line.invariant.rooted c.expand_line.new.entries.items c.next-after.result c.in-Some.line at.0 c.next-after.ensures c.len-in-Some-2.result count few gives in
+    let gives : Gathers c.args.most given.entries.items new None (line_outcomes (enter_with c.args.left) (alone texts [] c.args.root) c.loop-line.state (record { text = c.args.root; line = c.loop-line.number + 1 }) c.in-Some.line) = subst (λ w. Gathers c.args.most given.entries.items new None (line_outcomes (enter_with c.args.left) (alone texts w c.args.root) c.loop-line.state (record { text = c.args.root; line = c.loop-line.number + 1 }) c.in-Some.line)) c.loop-line.invariant.way (rw endless at c.in_ok-given.ensures.gathers) in
+    let ends : c.push-in-Some.new.self.items ≡ given.line_ends.items ++ c.len-in-Some.result ∷ [] = c.in_ok-push-2.ensures.items in
+    let count : c.len-in-Some.result ≡ length new = omega arith in
+    let passed = root-passed c.args.most c.args.left texts c.args.root given.entries.items given.line_ends.items c.loop-line.state c.loop-line.number c.loop-line.invariant.rooted new c.next-after.result c.in-Some.line at.0 c.next-after.ensures c.len-in-Some.result count few gives in
     record {
-      way = c.in_ok-end.ensures.way ∙ c.loop-line.invariant.way;
+      way = c.in_ok-given.ensures.way ∙ c.loop-line.invariant.way;
       left = at.1;
-      rooted = subst (λ ends. IsRooted c.args.most c.args.left texts c.args.root c.expand_line.new.entries.items ends c.next-after.result (c.loop-line.number + 1)) (sym ends) passed;
+      endless = endless;
+      rooted = subst (λ ends. IsRooted c.args.most c.args.left texts c.args.root new ends c.next-after.result (c.loop-line.number + 1)) (sym ends) passed;
     }

@@ -1,4 +1,4 @@
-use Rattle.std.proofs.Common.{◌≡◌, [], length, drop}
+use Rattle.std.proofs.Common.{◌≡◌, [], None, length, drop}
 use Rattle.std.specs.Vec.Iter.{into_iter_items}
 use Rattle.ld_entry.specs.NumberedTexts.{known_texts}
 use Rattle.ld_engine.proofs.Rooted.{IsRooted}
@@ -8,7 +8,8 @@ abbrev pub invariant-loop-line : goal.invariant-loop-line
 invariant-loop-line l = record {
   way : l.way.items ≡ [];
   left : into_iter_items l.rest ≡ drop l.number ((known_texts l.texts.known).lines l.root);
-  rooted : IsRooted l.most l.left (known_texts l.texts.known) l.root l.entries.items l.line_ends.items l.state l.number;
+  endless : l.given.end ≡ None;
+  rooted : IsRooted l.most l.left (known_texts l.texts.known) l.root l.given.entries.items l.given.line_ends.items l.state l.number;
 }
 
 abbrev pub decreases-loop-line : goal.decreases-loop-line
