@@ -10,3 +10,4 @@ pub mod Roots
 pub mod Loaded
 pub mod Settled
 pub mod Standing
+pub mod Types

@@ -1,5 +1,5 @@
 -- How far a root's references are gone through, and what is left of the going.
-use Rattle.std.specs.Prelude.{◌≡◌, ◌++◌, ◌-◌, ◌<◌, ℕ, suc, List, [], ◌∷◌, length, drop, slice_get, true, nat_eq, Option, Some, None}
+use Rattle.std.specs.Prelude.{◌≡◌, ◌++◌, ◌-◌, ◌<◌, ◌==◌, ◌||◌, Bool, false, ℕ, suc, List, [], ◌∷◌, length, drop, slice_get, true, nat_eq, Option, Some, None}
 use Rattle.std.specs.List.{list_any}
 use Rattle.ld_names.specs.Standing.{Known, Text, find, known_map}
 use Rattle.ld_names.specs.declared.file.FileId.{FileId}
@@ -59,3 +59,9 @@ abbrev pub Goes : (Known → Passed → Reached) → Known → Passed → Passed
 Goes rest known old new None = (more : Known) → rest (known ++ more) old ≡ Reaches new.texts
 Goes rest known old new (Some file) =
     ((more : Known) → rest (known ++ more) old ≡ rest (known ++ more) new) × (rest known new ≡ Wants file) × (id_of known file ≡ None)
+
+-- the first field of a line of type 2 to 5
+abbrev pub is_drawn_type : List ℕ → Bool
+is_drawn_type [] = false
+is_drawn_type (byte ∷ []) = byte == 50 || byte == 51 || byte == 52 || byte == 53
+is_drawn_type (byte ∷ more ∷ bytes) = false

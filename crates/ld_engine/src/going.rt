@@ -1,16 +1,17 @@
 // Goes through what a text reaches, and stops at each file that is not known.
-ghost use Rattle.std.specs.Prelude.{◌≡◌, ◌∷◌, ◌<◌, [], ℕ, IfOk, IfSome, ◌+◌, ◌^◌, length, option_map, slice_get, List, OnOk, None, Some, nat_eq};
+ghost use Rattle.std.specs.Prelude.{◌≡◌, ◌∷◌, ◌<◌, [], ℕ, true, IfOk, IfSome, ◌+◌, ◌^◌, length, option_map, slice_get, List, OnOk, None, Some, nat_eq};
 ghost use Rattle.std.specs.List.{IsDistinct};
 ghost use Rattle.std.specs.Option.{option_copied};
 ghost use Rattle.ld_texts.specs.Known.{lines_at};
-ghost use Rattle.ld_texts.specs.Reach.{lines_in};
+ghost use Rattle.ld_texts.specs.Reach.{Reaches, lines_in};
 ghost use Rattle.ld_names.specs.Standing.{Known};
-ghost use Rattle.ld_engine.specs.Going.{Goes, Grows, IsInside, Passed, Steps, begun, file_rest, left, line_step, name_step};
+ghost use Rattle.ld_names.specs.declared.file.Folder.{Folder};
+ghost use Rattle.ld_engine.specs.Going.{Goes, Grows, IsInside, Passed, Steps, begun, file_rest, is_drawn_type, left, line_step, name_step};
 
 use crate::find::{Sought, seek};
 use crate::seen::next_line;
 use indexmap::IndexSet;
-use ld_line::{Line, read_line};
+use ld_line::{Line, read_line, split_field};
 use ld_names::{FileId, Folder, Name, TextId};
 use ld_texts::{Texts, learning_law, number_law};
 use std::alloc::{AllocError, Global};
@@ -145,6 +146,9 @@ impl Going {
         ensures lines { OnOk result (self.new.lines ≡ self.old.lines) }
         ensures steps { IfOk result (λ wanted. Steps texts.now.known (line_step from line.now self.old.texts) self.old.texts self.new.texts wanted) }
     {
+        if is_drawn(line) {
+            return Ok(None);
+        }
         match read_line(alloc, line)? {
             Line::Ref {
                 name: Some(name),
@@ -187,4 +191,22 @@ impl Going {
             Sought::Unknown(folder) => Ok(Some(FileId { folder, name })),
         }
     }
+}
+
+// Whether the line is of type 2 to 5 (File Format 1.0.2, "Line Types"). It refers to nothing, so that
+// its numbers need not be read.
+#[tactic(auto, using(crate::proofs::Types::drawn_reaches))]
+fn is_drawn(line: &[u8]) -> bool
+    ensures { result ≡ true → (known : Known) (from : Folder) (texts : List ℕ) → line_step from line.now texts known ≡ Reaches texts }
+{
+    match split_field(line) {
+        Some((kind, _)) => is_drawn_type(kind),
+        None => false,
+    }
+}
+
+fn is_drawn_type(kind: &[u8]) -> bool
+    ensures { result ≡ is_drawn_type kind.now }
+{
+    matches!(kind, [b'2' | b'3' | b'4' | b'5'])
 }
