@@ -1,0 +1,12 @@
+//! Scripts: lines of edits and queries, which are answered one after another.
+#![tactic(auto)]
+
+mod command;
+mod fields;
+mod line;
+mod script;
+#[cfg(test)]
+mod tests;
+
+pub use command::{Command, Query, Root};
+pub use script::read_script;

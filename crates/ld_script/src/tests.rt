@@ -1,0 +1,194 @@
+//! Worked scripts.
+use crate::{Command, Query, Root, read_script};
+use ld_names::FileId;
+use ld_texts::Edit;
+use std::alloc::{AllocError, Global};
+use std::test::Fail;
+
+// A script and its commands. `|` stands for a TAB, `~` for a line feed and `^` for a carriage return;
+// a text stands between `<` and `>`.
+const SCRIPTS: &str = "set|model|m.ldr|1|0 x => Set Model m.ldr 1 <0 x>\n\
+set|model|m.ldr|1| => Set Model m.ldr 1 <>\n\
+set|model|m.ldr|1|a|b|| => Set Model m.ldr 1 <a|b||>\n\
+set|model|m.ldr|1||x => Set Model m.ldr 1 <|x>\n\
+set|model|m.ldr|1 => Bad 1\n\
+set|model|m.ldr|0|x => Set Model m.ldr 0 <x>\n\
+set|model|m.ldr|0000000001|x => Set Model m.ldr 1 <x>\n\
+set|model|m.ldr|00000000001|x => Bad 1\n\
+set|model|m.ldr|4294967295|x => Set Model m.ldr 4294967295 <x>\n\
+set|model|m.ldr|4294967296|x => Bad 1\n\
+set|model|m.ldr|+1|x => Bad 1\n\
+set|model|m.ldr|1.0|x => Bad 1\n\
+set|model|m.ldr||x => Bad 1\n\
+set|model|m.ldr| 1|x => Bad 1\n\
+set|model||1|x => Bad 1\n\
+set|Model|m.ldr|1|x => Bad 1\n\
+set|lib|m.ldr|1|x => Bad 1\n\
+set||m.ldr|1|x => Bad 1\n\
+set|parts| S\\3001S01.DAT |7|x => Set Parts s/3001s01.dat 7 <x>\n\
+set|p|4-4 disc.dat|7|x => Set P 4-4 disc.dat 7 <x>\n\
+set|p|../x.dat|7|x => Bad 1\n\
+set|p|c:x.dat|7|x => Bad 1\n\
+\x20set|model|m.ldr|1|x => Bad 1\n\
+SET|model|m.ldr|1|x => Bad 1\n\
+set model m.ldr 1 x => Bad 1\n\
+ins|model|m.ldr|2|0 x => Insert Model m.ldr 2 <0 x>\n\
+ins|model|m.ldr|2| => Insert Model m.ldr 2 <>\n\
+ins|model|m.ldr|2 => Bad 1\n\
+ins|model|m.ldr|x|0 x => Bad 1\n\
+del|model|m.ldr|3 => Delete Model m.ldr 3\n\
+del|model|m.ldr|3| => Bad 1\n\
+del|model|m.ldr|x => Bad 1\n\
+del|model|m.ldr => Bad 1\n\
+new|model|a b.ldr => New Model a b.ldr\n\
+new|model|a.ldr| => Bad 1\n\
+new|model => Bad 1\n\
+new => Bad 1\n\
+drop|p|A.DAT => Drop P a.dat\n\
+drop|p||A.DAT => Bad 1\n\
+move|model|a.ldr|parts|B.dat => Move Model a.ldr Parts b.dat\n\
+move|model|a.ldr|parts|B.dat| => Bad 1\n\
+move|model|a.ldr|parts||B.dat => Bad 1\n\
+move|model|a.ldr|parts => Bad 1\n\
+move|model|a.ldr|x|b.dat => Bad 1\n\
+move|model|a.ldr|model| => Bad 1\n\
+faces => Faces\n\
+steps => Steps\n\
+parts => Parts\n\
+faces| => Bad 1\n\
+faces|model|m.ldr|16 => Faces Model m.ldr 16\n\
+steps|parts|x.dat|0x2FF0000 => Steps Parts x.dat 50266112\n\
+parts|model|m.ldr|red => Bad 1\n\
+faces|model|m.ldr => Bad 1\n\
+faces|model|m.ldr|16| => Bad 1\n\
+faces|model|m.ldr|16|x => Bad 1\n\
+kept => Bad 1\n\
+jump => Bad 1\n\
+|faces => Bad 1\n\
+\x20=>\x20\n\
+# =>\x20\n\
+#set|model|m.ldr|1|x =>\x20\n\
+\x20# => Bad 1\n\
+~~jump => Bad 3\n\
+faces~ => Faces\n\
+faces^~#x~~steps^ => Faces, Steps\n\
+^ =>\x20\n\
+faces^^ => Bad 1\n\
+set|model|m.ldr|1|x^~ => Set Model m.ldr 1 <x>\n\
+set|model|m.ldr|1|x^y => Set Model m.ldr 1 <x^y>\n\
+faces~jump~steps~drop => Faces, Bad 2, Steps, Bad 4";
+
+fn script_byte(byte: u8) -> u8 {
+    match byte {
+        b'|' => b'\t',
+        b'~' => b'\n',
+        b'^' => b'\r',
+        _ => byte,
+    }
+}
+
+fn shown_char(byte: u8) -> char {
+    match byte {
+        b'\t' => '|',
+        b'\r' => '^',
+        _ => char::from(byte),
+    }
+}
+
+fn text_shown(alloc: Global, bytes: &[u8]) -> Result<String, AllocError> {
+    let mut shown = String::new(alloc);
+    for byte in bytes {
+        shown.push(shown_char(*byte))?;
+    }
+    Ok(shown)
+}
+
+fn file_shown(alloc: Global, file: &FileId) -> Result<String, AllocError> {
+    let name = text_shown(alloc, file.name.bytes())?;
+    format!(in alloc; "{:?} {name}", file.folder)
+}
+
+fn edit_shown(alloc: Global, edit: &Edit) -> Result<String, AllocError> {
+    match edit {
+        Edit::Set { file, line, text } => {
+            let text = text_shown(alloc, text.as_slice())?;
+            let file = file_shown(alloc, file)?;
+            format!(in alloc; "Set {file} {line} <{text}>")
+        }
+        Edit::Insert { file, line, text } => {
+            let text = text_shown(alloc, text.as_slice())?;
+            let file = file_shown(alloc, file)?;
+            format!(in alloc; "Insert {file} {line} <{text}>")
+        }
+        Edit::Delete { file, line } => {
+            let file = file_shown(alloc, file)?;
+            format!(in alloc; "Delete {file} {line}")
+        }
+        Edit::New { file } => {
+            let file = file_shown(alloc, file)?;
+            format!(in alloc; "New {file}")
+        }
+        Edit::Drop { file } => {
+            let file = file_shown(alloc, file)?;
+            format!(in alloc; "Drop {file}")
+        }
+        Edit::Move { from, to } => {
+            let from = file_shown(alloc, from)?;
+            let to = file_shown(alloc, to)?;
+            format!(in alloc; "Move {from} {to}")
+        }
+    }
+}
+
+fn query_shown(alloc: Global, query: Query, root: &Option<Root>) -> Result<String, AllocError> {
+    match root {
+        None => format!(in alloc; "{query:?}"),
+        Some(Root { file, colour }) => {
+            let file = file_shown(alloc, file)?;
+            format!(in alloc; "{query:?} {file} {colour}")
+        }
+    }
+}
+
+fn command_shown(alloc: Global, command: &Command) -> Result<String, AllocError> {
+    match command {
+        Command::Edit(edit) => edit_shown(alloc, edit),
+        Command::Ask(query, root) => query_shown(alloc, *query, root),
+        Command::Bad(line) => format!(in alloc; "Bad {line}"),
+    }
+}
+
+fn commands_shown(alloc: Global, commands: &[Command]) -> Result<String, AllocError> {
+    let mut shown = String::new(alloc);
+    for command in commands {
+        if !shown.is_empty() {
+            shown.push_str(", ")?;
+        }
+        let command = command_shown(alloc, command)?;
+        shown.push_str(command.as_str())?;
+    }
+    Ok(shown)
+}
+
+#[test]
+fn scripts(rt: HostRuntime) -> Result<(), Fail> {
+    let alloc = rt.alloc();
+    for row in SCRIPTS.lines() {
+        let (script, wanted) = row.split_once(" => ").ok_or("a row without =>")?;
+        let bytes: Vec<u8> = script.bytes().map(script_byte).collect(alloc)?;
+        assert!(rt; bytes.len() < 100);
+        let commands = read_script(alloc, bytes.as_slice())?;
+        let shown = commands_shown(alloc, commands.as_slice())?;
+        assert_eq!(rt; shown.as_str(), wanted, "{row}");
+    }
+    Ok(())
+}
+
+fn crosses_threads<T: Send + Sync>() {}
+
+#[test]
+fn types_cross_threads() {
+    crosses_threads::<Command>();
+    crosses_threads::<Query>();
+    crosses_threads::<Root>();
+}
