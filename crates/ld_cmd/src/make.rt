@@ -87,6 +87,7 @@ fn show_file<S: Shelf>(
     let own = own_name(alloc, file.as_bytes())?;
     show_model(alloc, what, options, &own, bytes.as_slice(), &table, shelf)
 }
+
 // What a generated model of so many bricks comes to.
 fn show_generated<S: Shelf>(
     alloc: Global,

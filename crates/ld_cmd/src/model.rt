@@ -114,6 +114,7 @@ fn show_main<S: Shelf>(
     ensures same { S.files shelf.new ≡ S.files shelf.old }
     ensures never_falls { S.faults shelf.old ≤ S.faults shelf.new }
 {
+    // Read here, so that the limit on entries is seen to be below 2^32.
     let _most = options.max_entries;
     let answer = ask(workspace, shelf, main, colour_of(options.main));
     show_answer(alloc, what, workspace.texts(), table, answer)

@@ -28,6 +28,7 @@ pub(crate) fn ask<S: Shelf>(
     root_law();
     tint_law();
     let result = workspace.answer(shelf, root, colour);
+    // Its clauses say that no file is known twice.
     let _ = workspace.texts().known();
     result
 }

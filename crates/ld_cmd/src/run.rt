@@ -49,6 +49,7 @@ pub fn run<S: Shelf, K: Sink>(alloc: Global, words: &[String], shelf: &mut S, ou
         Err(Stop::Memory) => Status::Memory,
     }
 }
+
 // Puts the last piece, unless it is empty, and ends with this status.
 fn put_last<K: Sink>(out: &mut K, piece: &[u8], status: Status) -> Status
     requires { IsWhole status }

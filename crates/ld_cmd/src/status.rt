@@ -10,7 +10,7 @@ pub enum Status {
     Faulted,
     /// The words are no command; the usage line was written.
     Usage,
-    /// A named file is absent, or its text is unusable.
+    /// A named file is absent, or a line of the colour file is bad; its line was written.
     Input,
     /// Reading a file failed.
     ReadFault,
@@ -18,7 +18,7 @@ pub enum Status {
     WriteFault,
     /// Memory was lacking.
     Memory,
-    /// A file or the texts together are too big.
+    /// A file is too big, or a limit on the known files is passed; its line was written.
     Limit,
 }
 
