@@ -1,5 +1,5 @@
 -- Short numbers, put together from their digits.
-use Rattle.std.proofs.Common.{◌≡◌, ℕ, zero, suc, ◌+◌, ◌-◌, ◌/◌, ◌%◌, ◌^◌, ◌<◌, ◌≤◌, Bool, true, false, List, [], ◌∷◌, ◌++◌, length, take, ℤ, pos, negsuc, int_lt, nat_lt, ◌==◌, unsigned_abs, arith, refl, sym, ◌∙◌, ap, append-nil}
+use Rattle.std.proofs.Common.{◌≡◌, ℕ, zero, suc, ◌+◌, ◌-◌, ◌/◌, ◌%◌, ◌^◌, ◌<◌, ◌≤◌, Bool, true, false, List, [], ◌∷◌, ◌++◌, length, take, drop, if◌then◌else◌, ℤ, pos, negsuc, int_lt, nat_lt, ◌==◌, unsigned_abs, arith, refl, sym, ◌∙◌, ap, append-nil}
 use Rattle.std.specs.Fmt.{decimal}
 use Rattle.std.specs.List.{suffix_len}
 use Rattle.std.proofs.Math.Seq.{take-append-add, take-append_seam}
@@ -42,6 +42,20 @@ pub three_are : (n : ℕ) → 100 ≤ n → n < 1000 → decimal n ≡ three_dig
 three_are n low high =
     let e : n / 10 / 10 % 10 ≡ n / 10 / 10 = omega arith in
     decimal_step n (omega arith) (omega arith) ∙ ap (λ ds. ds ++ ((48 + n % 10) ∷ [])) (two_digits (n / 10) (omega arith) (omega arith)) ∙ ap (λ k. (48 + k) ∷ (48 + n / 10 % 10) ∷ (48 + n % 10) ∷ []) e
+
+pub signed_is : (is_negative : Bool) (ws : List ℕ) → drop (if is_negative then 0 else 1) (45 ∷ ws) ≡ minus_if is_negative ++ ws
+signed_is true ws = refl
+signed_is false ws = refl
+
+-- a whole number has no fraction
+pub whole_is : (is_negative : Bool) (size : ℕ) → size % 1000000 ≡ 0 → short_text is_negative size ≡ minus_if is_negative ++ decimal (size / 1000000)
+whole_is is_negative size h =
+    let a : size / 100000 % 10 ≡ 0 = omega arith in
+    let b : size / 10000 % 10 ≡ 0 = omega arith in
+    let c : size / 1000 % 10 ≡ 0 = omega arith in
+    let d : size / 100 % 10 ≡ 0 = omega arith in
+    let e : size / 10 % 10 ≡ 0 = omega arith in
+    let f : size % 10 ≡ 0 = omega arith in rw (a, b, c, d, e, f) (append-nil (minus_if is_negative ++ decimal (size / 1000000)))
 
 -- ---- the part of the text that is shown
 
