@@ -1,6 +1,6 @@
 -- What an edit leaves and what it changes: over the known files, over what is known of each file, and over the texts as
 -- they stand.
-use Rattle.std.specs.Prelude.{◌≡◌, ◌≤◌, ◌<◌, ◌+◌, ◌-◌, ◌==◌, ℕ, Bool, true, false, [], List, length, Some, get_or}
+use Rattle.std.specs.Prelude.{◌≡◌, ◌≤◌, ◌<◌, ◌+◌, ◌-◌, ◌==◌, ℕ, Bool, true, false, [], List, length, Some, None, get_or}
 use Rattle.std.specs.List.{list_all}
 use Rattle.ld_names.specs.declared.file.FileId.{FileId}
 use Rattle.ld_names.specs.Standing.{Known, Text, known_map, standing}
@@ -41,3 +41,15 @@ pub record Weighs (known : Known) : Type 0 where
 
 abbrev pub EditLaws : Type 0
 EditLaws = (known : Known) (edit : Edit) → Keeps known edit × EditsMaps known edit × Weighs known
+
+-- a text whose lines a block may hold
+abbrev pub is_of_block_lines : Text → Bool
+is_of_block_lines None = true
+is_of_block_lines (Some lines) = list_all is_block_text lines
+
+abbrev pub are_of_block_lines : Known → Bool
+are_of_block_lines known = list_all (λ entry. is_of_block_lines entry.1) known
+
+-- an edit that is not refused leaves texts of such lines
+abbrev pub KeepsBlockLines : Type 0
+KeepsBlockLines = (max_weight : ℕ) (known : Known) (edit : Edit) → refusal_of max_weight known edit ≡ None → are_of_block_lines known ≡ true → are_of_block_lines (edited known edit) ≡ true
