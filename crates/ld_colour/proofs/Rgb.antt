@@ -1,6 +1,6 @@
 -- Six hexadecimal digits write red, green and blue.
 use Rattle.std.proofs.Common.{◌≡◌, ◌==◌, ◌&&◌, ◌<◌, ◌^◌, ℕ, true, List, [], ◌∷◌, length, take, drop, Option, Some, None, subst, nat_lt}
-use Rattle.std.specs.Prelude.{All, IfSome, bytes_eq, codes}
+use Rattle.std.specs.Prelude.{All, IfSome, bytes_eq, codes, ⊤}
 use Rattle.std.specs.Char.{digit_value, is_digit}
 use Rattle.std.specs.List.{list_all}
 use Rattle.std.specs.Map.{values_of}
@@ -13,16 +13,21 @@ use Rattle.std.proofs.lemmas.Map.Views.{IfSome-lookup_from_All}
 use Rattle.ld_line.specs.Digits.{decimal_number, is_number, number_of}
 use Rattle.ld_line.specs.Field.{fields}
 use Rattle.ld_colour.specs.declared.colour.Colour.TheVariants.{Main, Edge, Code, EdgeOf, Direct}
-use Rattle.ld_colour.specs.declared.definition.ColourLine.TheVariants.{Other}
+use Rattle.ld_colour.specs.declared.definition.ColourLine.{ColourLine}
+use Rattle.ld_colour.specs.declared.definition.ColourLine.TheVariants.{Defines, Other}
 use Rattle.ld_colour.specs.declared.definition.DefinedEdge.{DefinedEdge}
 use Rattle.ld_colour.specs.declared.definition.DefinedEdge.TheVariants.{Value, ValueOf}
 use Rattle.ld_colour.specs.declared.definition.Definition.{Definition}
 use Rattle.ld_colour.specs.declared.table.Table.{Table}
 use Rattle.ld_colour.specs.Definition.{are_keywords, colour_line, colour_line_in, defined_by, defining, edge_by, edge_value, is_rest, made, rgb_value, six_digits}
-use Rattle.ld_colour.specs.Rgb.{DefinesRgb, HasRgb, IsRgb, IsRgbEdge}
+use Rattle.ld_colour.specs.Rgb.{HasRgb, IsRgb, IsRgbEdge}
 use Rattle.ld_colour.specs.Table.{FindsRgb, counting, edge_by as table_edge, edge_of, rgb_in, value_by, value_in}
 
 -- ---- What a line defines.
+
+abbrev pub DefinesRgb : ColourLine → Type 0
+DefinesRgb (Defines code definition) = HasRgb definition
+DefinesRgb line = ⊤
 
 all-digits : (radix : ℕ) (digits : List ℕ) → list_all (λ digit. is_digit digit radix) digits ≡ true → AllDigits radix digits
 all-digits radix [] all = tt

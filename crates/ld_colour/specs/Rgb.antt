@@ -1,7 +1,5 @@
 -- Red, green and blue have eight bits each: Colour Definition Language Extension, "VALUE" and "EDGE".
 use Rattle.std.specs.Prelude.{◌<◌, ◌^◌, ℕ, ⊤}
-use Rattle.ld_colour.specs.declared.definition.ColourLine.{ColourLine}
-use Rattle.ld_colour.specs.declared.definition.ColourLine.TheVariants.{Defines}
 use Rattle.ld_colour.specs.declared.definition.DefinedEdge.{DefinedEdge}
 use Rattle.ld_colour.specs.declared.definition.DefinedEdge.TheVariants.{Value, ValueOf}
 use Rattle.ld_colour.specs.declared.definition.Definition.{Definition}
@@ -16,7 +14,3 @@ IsRgbEdge (ValueOf code) = ⊤
 -- the values that a definition has
 abbrev pub HasRgb : Definition → Type 0
 HasRgb definition = IsRgb definition.value × IsRgbEdge definition.edge
-
-abbrev pub DefinesRgb : ColourLine → Type 0
-DefinesRgb (Defines code definition) = HasRgb definition
-DefinesRgb line = ⊤

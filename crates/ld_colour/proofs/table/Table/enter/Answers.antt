@@ -6,9 +6,9 @@ use Rattle.ld_line.specs.Cut.{lines_from}
 use Rattle.ld_colour.specs.declared.definition.ColourLine.TheVariants.{Defines}
 use Rattle.ld_colour.specs.declared.definition.Definition.{Definition}
 use Rattle.ld_colour.specs.Definition.{colour_line}
-use Rattle.ld_colour.specs.Rgb.{DefinesRgb, HasRgb}
+use Rattle.ld_colour.specs.Rgb.{HasRgb}
 use Rattle.ld_colour.specs.Table.{counting}
-use Rattle.ld_colour.proofs.Rgb.{line-rgb}
+use Rattle.ld_colour.proofs.Rgb.{DefinesRgb, line-rgb}
 use Rattle.ld_colour.proofs.Tables.{refused_step}
 use Rattle.ld_colour.proofs.table.Table.enter.Goals as goal
 use Rattle.ld_colour.proofs.table.Table.enter.Goals.{in-Ok, in-Err}
