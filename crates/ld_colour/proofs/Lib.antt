@@ -1,3 +1,4 @@
 mod Lawful
 mod Marks
+mod Rgb
 mod Tables
