@@ -77,13 +77,13 @@ is-good text further line lines is =
 keeps : (known : Known) (edit : Edit) → misfit (text_of known) edit ≡ None → are_of_block_lines known ≡ true → are_of_block_lines (edited known edit) ≡ true
 keeps known (Set file line text) fits all =
     written known file (option_map (λ lines. slice_set lines (line - 1) text) (text_of known file)) all
-      (changed (text_of known file) (λ lines. slice_set lines (line - 1) text) (λ lines good. all-set is_block_text lines (line - 1) text good (is-good text 0 line (text_of known file) fits)) (by-number known (id_of known file) all))
+    (changed (text_of known file) (λ lines. slice_set lines (line - 1) text) (λ lines good. all-set is_block_text lines (line - 1) text good (is-good text 0 line (text_of known file) fits)) (by-number known (id_of known file) all))
 keeps known (Insert file line text) fits all =
     written known file (option_map (λ lines. insert lines (line - 1) text) (text_of known file)) all
-      (changed (text_of known file) (λ lines. insert lines (line - 1) text) (λ lines good. all-insert is_block_text lines (line - 1) text good (is-good text 1 line (text_of known file) fits)) (by-number known (id_of known file) all))
+    (changed (text_of known file) (λ lines. insert lines (line - 1) text) (λ lines good. all-insert is_block_text lines (line - 1) text good (is-good text 1 line (text_of known file) fits)) (by-number known (id_of known file) all))
 keeps known (Delete file line) fits all =
     written known file (option_map (λ lines. remove lines (line - 1)) (text_of known file)) all
-      (changed (text_of known file) (λ lines. remove lines (line - 1)) (λ lines good. all-remove is_block_text lines (line - 1) good) (by-number known (id_of known file) all))
+    (changed (text_of known file) (λ lines. remove lines (line - 1)) (λ lines good. all-remove is_block_text lines (line - 1) good) (by-number known (id_of known file) all))
 keeps known (New file) fits all = written known file (Some []) all refl
 keeps known (Drop file) fits all = written known file None all refl
 keeps known (Move from to) fits all =
