@@ -1,5 +1,5 @@
 -- An edit leaves texts of lines that a block may hold.
-use Rattle.std.proofs.Common.{◌≡◌, ◌-◌, ◌&&◌, ℕ, zero, suc, Bool, true, false, cond, List, [], ◌∷◌, Option, Some, None, ap, refl, ◌∙◌, subst, sym, option_map, option_and_then, slice_get, slice_set, inl, inr}
+use Rattle.std.proofs.Common.{◌≡◌, ◌-◌, ℕ, zero, suc, Bool, true, false, List, [], ◌∷◌, Option, Some, None, refl, option_map, option_and_then, slice_set, inl, inr}
 use Rattle.std.specs.Prelude.{not}
 use Rattle.std.specs.List.{insert, list_all, remove}
 use Rattle.std.specs.Map.{set_value}
@@ -7,7 +7,7 @@ use Rattle.std.specs.Option.{option_or}
 use Rattle.std.proofs.lemmas.Bool.{and_from, and_parts, cases_Bool}
 use Rattle.ld_names.specs.declared.file.FileId.{FileId}
 use Rattle.ld_names.specs.Standing.{Known, Text, same_file}
-use Rattle.ld_texts.specs.Editing.{edited, is_block_text, misfit, misses, overweight, refusal_of, refused_if, text_of}
+use Rattle.ld_texts.specs.Editing.{edited, is_block_text, misfit, misses, overweight, refused_if, text_of}
 use Rattle.ld_texts.specs.EditLaws.{KeepsBlockLines, are_of_block_lines, is_of_block_lines}
 use Rattle.ld_texts.specs.Known.{id_of, lines_at}
 use Rattle.ld_texts.specs.declared.edit.Edit.{Edit}

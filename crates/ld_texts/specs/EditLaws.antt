@@ -1,13 +1,13 @@
 -- What an edit leaves and what it changes: over the known files, over what is known of each file, and over the texts as
 -- they stand.
-use Rattle.std.specs.Prelude.{◌≡◌, ◌≤◌, ◌<◌, ◌+◌, ◌-◌, ◌==◌, ℕ, Bool, true, false, [], List, length, Some, None, get_or}
+use Rattle.std.specs.Prelude.{◌≡◌, ◌≤◌, ◌<◌, ◌+◌, ◌-◌, ℕ, Bool, true, false, [], List, length, Some, None, get_or}
 use Rattle.std.specs.List.{list_all}
 use Rattle.ld_names.specs.declared.file.FileId.{FileId}
 use Rattle.ld_names.specs.Standing.{Known, Text, known_map, standing}
 use Rattle.ld_texts.specs.Editing.{AreKnown, edit_change, edited, edited_map, files_in, is_block_text, misfit, names, refusal_of, text_in, text_of}
 use Rattle.ld_texts.specs.Known.{AreDistinct, file_at, files_of, id_of, is_part_at, lines_at, weight_of}
 use Rattle.ld_texts.specs.declared.edit.Edit.{Edit}
-use Rattle.ld_texts.specs.declared.edit.Edit.TheVariants.{Set, Insert, Delete, New, Drop, Move}
+use Rattle.ld_texts.specs.declared.edit.Edit.TheVariants.{Set, Insert}
 
 -- every file keeps its number, and the files that the edit does not name keep their texts
 pub record Keeps (known : Known) (edit : Edit) : Type 0 where

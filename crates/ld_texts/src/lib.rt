@@ -4,8 +4,6 @@
 mod change;
 mod changing;
 mod edit;
-#[cfg(test)]
-mod edit_tests;
 mod ids;
 mod laws;
 mod preparing;
