@@ -1,5 +1,5 @@
 -- Short numbers, put together from their digits.
-use Rattle.std.proofs.Common.{◌≡◌, ℕ, zero, suc, ◌+◌, ◌-◌, ◌/◌, ◌%◌, ◌^◌, ◌<◌, ◌≤◌, Bool, true, false, List, [], ◌∷◌, ◌++◌, length, take, drop, if◌then◌else◌, ℤ, pos, negsuc, int_lt, nat_lt, ◌==◌, unsigned_abs, arith, refl, sym, ◌∙◌, ap, append-nil}
+use Rattle.std.proofs.Common.{◌≡◌, ℕ, zero, suc, ◌+◌, ◌-◌, ◌/◌, ◌%◌, ◌^◌, ◌<◌, ◌≤◌, Bool, true, false, cond, List, [], ◌∷◌, ◌++◌, length, take, drop, if◌then◌else◌, ℤ, pos, negsuc, int_lt, nat_lt, ◌==◌, unsigned_abs, arith, refl, sym, ◌∙◌, ap, append-nil}
 use Rattle.std.specs.Fmt.{decimal}
 use Rattle.std.specs.List.{suffix_len}
 use Rattle.std.proofs.Math.Seq.{take-append-add, take-append_seam}
@@ -86,3 +86,26 @@ window_is is_negative ws d ds point (suc k) p = window_some is_negative ws d ds 
 pub short_is : (is_negative : Bool) (size : ℕ) (ws : List ℕ) (point count : ℕ) → decimal (size / 1000000) ≡ ws → point ≡ length ws + 1 → count ≡ length (six_digits size) - suffix_len (λ b. b == 48) (six_digits size) → window (45 ∷ (ws ++ 46 ∷ six_digits size)) point count is_negative ≡ short_text is_negative size
 short_is is_negative size ws point count whole p k =
     window_is is_negative ws (48 + size / 100000 % 10) ((48 + size / 10000 % 10) ∷ (48 + size / 1000 % 10) ∷ (48 + size / 100 % 10) ∷ (48 + size / 10 % 10) ∷ (48 + size % 10) ∷ []) point count p ∙ ap (λ n. minus_if is_negative ++ ws ++ after_period (take n (six_digits size))) k ∙ ap (λ ws. minus_if is_negative ++ ws ++ after_period (without_last_zeros (six_digits size))) (sym whole)
+
+-- ---- thousandths
+
+-- zeros at the end are not shown
+no_zeros : (is_z is_y is_x : Bool) (x y z : ℕ) → take (6 - (1 + (1 + (1 + cond is_z (1 + cond is_y (1 + cond is_x (1 + 0) 0) 0) 0)))) (x ∷ y ∷ z ∷ 48 ∷ 48 ∷ 48 ∷ []) ≡ take (3 - cond is_z (1 + cond is_y (1 + cond is_x (1 + 0) 0) 0) 0) (x ∷ y ∷ z ∷ [])
+no_zeros false is_y is_x x y z = refl
+no_zeros true false is_x x y z = refl
+no_zeros true true false x y z = refl
+no_zeros true true true x y z = refl
+
+shown_places : (x y z : ℕ) → without_last_zeros (x ∷ y ∷ z ∷ 48 ∷ 48 ∷ 48 ∷ []) ≡ without_last_zeros (x ∷ y ∷ z ∷ [])
+shown_places x y z = no_zeros (z == 48) (y == 48) (x == 48) x y z
+
+thousandths_shown : (size : ℕ) → size % 1000 ≡ 0 → without_last_zeros (six_digits size) ≡ without_last_zeros (three_digits (size % 1000000 / 1000))
+thousandths_shown size h =
+    let none : size % 1000000 % 1000 ≡ 0 = omega arith in
+    let places = size % 1000000 / 1000 in
+    ap without_last_zeros (sym (six_by_threes size)) ∙ ap (λ n. without_last_zeros (three_digits places ++ three_digits n)) none ∙ shown_places (48 + places / 10 / 10) (48 + places / 10 % 10) (48 + places % 10)
+
+pub thousandths_are : (is_negative : Bool) (size : ℕ) (ws : List ℕ) (point count : ℕ) → size % 1000 ≡ 0 → decimal (size / 1000000) ≡ ws → point ≡ length ws + 1 → count ≡ length (three_digits (size % 1000000 / 1000)) - suffix_len (λ b. b == 48) (three_digits (size % 1000000 / 1000)) → window (45 ∷ (ws ++ 46 ∷ three_digits (size % 1000000 / 1000))) point count is_negative ≡ short_text is_negative size
+thousandths_are is_negative size ws point count h whole p k =
+    let places = size % 1000000 / 1000 in
+    window_is is_negative ws (48 + places / 10 / 10) ((48 + places / 10 % 10) ∷ (48 + places % 10) ∷ []) point count p ∙ ap (λ n. minus_if is_negative ++ ws ++ after_period (take n (three_digits places))) k ∙ ap (λ ds. minus_if is_negative ++ ws ++ after_period ds) (sym (thousandths_shown size h)) ∙ ap (λ ws. minus_if is_negative ++ ws ++ after_period (without_last_zeros (six_digits size))) (sym whole)

@@ -1,4 +1,4 @@
-ghost use Rattle.std.specs.Prelude.{◌≡◌, ◌+◌, ◌-◌, ◌^◌, ◌<◌, ◌≤◌, ◌==◌, ◌++◌, drop, length, if◌then◌else◌, OnOk, OnErr};
+ghost use Rattle.std.specs.Prelude.{◌≡◌, ◌+◌, ◌-◌, ◌^◌, ◌%◌, ◌<◌, ◌≤◌, ◌==◌, ◌++◌, drop, length, if◌then◌else◌, OnOk, OnErr};
 ghost use Rattle.std.specs.List.{suffix_len};
 ghost use Rattle.std.specs.Fmt.{decimal};
 ghost use Rattle.ld_num.specs.Front.{minus_if};
@@ -25,6 +25,8 @@ pub fn print_dec(value: Dec, into: &mut Vec<u8>) -> Result<(), AllocError>
         print_long(value, into)
     } else if size % MILLION == 0 {
         print_whole((size / MILLION) as u32, value.millionths() < 0, into)
+    } else if size % 1_000 == 0 {
+        print_thousandths(size, value.millionths() < 0, into)
     } else {
         print_short(size, value.millionths() < 0, into)
     }
@@ -72,6 +74,29 @@ fn print_short(size: u64, is_negative: bool, into: &mut Vec<u8>) -> Result<(), A
         into.extend_from_slice(window(&text, 3, count, is_negative))
     } else {
         let text = [b'-', u, b'.', a, b, c, d, e, f];
+        into.extend_from_slice(window(&text, 2, count, is_negative))
+    }
+}
+
+// The same for a whole number of thousandths.
+fn print_thousandths(size: u64, is_negative: bool, into: &mut Vec<u8>) -> Result<(), AllocError>
+    requires short { size < 10 ^ 9 }
+    requires thousandths { size % 1000 ≡ 0 }
+    ensures ok { OnOk result (into.new.items ≡ into.old.items ++ short_text is_negative size) }
+    ensures err { OnErr result (into.new.items ≡ into.old.items) }
+{
+    let [h, t, u] = three_digits((size / MILLION) as u32);
+    let places = three_digits((size % MILLION) as u32 / 1_000);
+    let count = kept(&places);
+    let [a, b, c] = places;
+    if size >= 100 * MILLION {
+        let text = [b'-', h, t, u, b'.', a, b, c];
+        into.extend_from_slice(window(&text, 4, count, is_negative))
+    } else if size >= 10 * MILLION {
+        let text = [b'-', t, u, b'.', a, b, c];
+        into.extend_from_slice(window(&text, 3, count, is_negative))
+    } else {
+        let text = [b'-', u, b'.', a, b, c];
         into.extend_from_slice(window(&text, 2, count, is_negative))
     }
 }
