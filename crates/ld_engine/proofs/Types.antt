@@ -1,5 +1,5 @@
 -- Lines of type 2 to 5 refer to nothing.
-use Rattle.std.proofs.Common.{◌≡◌, ◌*◌, ◌==◌, ◌||◌, ◌⊎◌, ◌∙◌, ℕ, ℤ, true, List, [], ◌∷◌, Option, Some, None, Result, Ok, Err, ap, arith, inl, inr, refl, subst, sym, tests}
+use Rattle.std.proofs.Common.{◌≡◌, ◌*◌, ◌⊎◌, ◌∙◌, ℕ, ℤ, true, List, [], ◌∷◌, Option, Some, None, Result, Ok, Err, ap, arith, inl, inr, refl, subst, sym, tests}
 use Rattle.ld_num.specs.declared.dec.NumError.{NumError}
 use Rattle.ld_num.specs.declared.dec.NumError.TheVariants.{NotANumber, OutOfRange}
 use Rattle.ld_names.specs.Standing.{Known}
