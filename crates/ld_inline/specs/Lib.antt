@@ -1,0 +1,5 @@
+pub mod Flat
+pub mod Inside
+pub mod Laws
+pub mod Meaning
+pub mod Text
