@@ -2,14 +2,16 @@ ghost use Rattle.std.specs.Prelude.{◌≡◌, ◌≤◌, ◌&&◌, ◌++◌, �
 ghost use Rattle.std.specs.List.{fold};
 ghost use Rattle.ld_colour.specs.Table.{counting};
 ghost use Rattle.ld_steps.specs.Laws.{AreSteps};
+ghost use Rattle.ld_inline.specs.Meaning.{MeansFlat};
 ghost use Rattle.ld_inline.specs.Text.{Inlines, clip_lines, entries_lines, entry_lines, first_missing, inlined_text, lines_text, missing_in, missing_colour, stands_behind, steps_lines, text_of};
 ghost use Rattle.ld_inline.specs.Inside.Shown.{AreShownSteps, IsShown};
 
 use crate::ranges::{colour_range, points_range};
 use crate::rotation::append_step;
 use crate::words::append_drawn;
-use ld_colour::{Colour, Table};
+use ld_colour::{Colour, Table, under_laws};
 use ld_entry::Entry;
+use ld_line::{colour_law, draw_law, lines_law, step_law};
 use ld_num::Point;
 use ld_steps::{StepPart, Turn};
 use std::alloc::{AllocError, Global};
@@ -41,7 +43,14 @@ pub fn inline(
 ) -> Result<Vec<u8>, InlineError>
     requires { AreSteps (length entries.now) steps.now }
     ensures text { Inlines (inlined_text entries.now steps.now (counting table.now)) result }
+    ensures means { IfOk result (λ text. MeansFlat entries.now steps.now (counting table.now) text.items) }
 {
+    lines_law();
+    colour_law();
+    draw_law();
+    step_law();
+    under_laws();
+    table.rgb_law();
     if let Some(code) = missing(entries, table) {
         return Err(InlineError::NoColour(code));
     }

@@ -1,9 +1,11 @@
-//! The text of an LDraw model without references.
+//! The text of an LDraw model without references, and what it means.
 #![tactic(auto)]
 
 mod inlining;
+mod laws;
 mod ranges;
 mod rotation;
 mod words;
 
 pub use inlining::{InlineError, inline};
+pub use laws::answers_law;
