@@ -5,3 +5,4 @@ pub mod Said
 pub mod StepsAgain
 pub mod Texts
 pub mod Views
+pub mod Worked

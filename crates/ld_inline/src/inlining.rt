@@ -25,7 +25,7 @@ pub enum InlineError {
 }
 
 // Named where entries are moved: the prover looks for the types inside them among those named.
-const NO_POINTS: [Point; 0] = [];
+pub(crate) const NO_POINTS: [Point; 0] = [];
 
 /// One text without references, which has the drawn entries and the steps of an answer (File Format
 /// 1.0.2, "Line Type 2" to "Line Type 5" and "STEP"). It states back face culling for each entry,

@@ -5,6 +5,8 @@ mod inlining;
 mod laws;
 mod ranges;
 mod rotation;
+#[cfg(test)]
+mod tests;
 mod words;
 
 pub use inlining::{InlineError, inline};
