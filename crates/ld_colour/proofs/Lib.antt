@@ -1,4 +1,3 @@
 mod Lawful
-mod Marks
 mod Rgb
 mod Tables
