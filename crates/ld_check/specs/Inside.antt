@@ -1,0 +1,3 @@
+-- Words of the code's own clauses; no other crate cites them.
+pub mod AtLine
+pub mod Ranking

@@ -1,0 +1,11 @@
+//! What is wrong with a part: its header, its lines, and the planes and points of what it draws.
+#![tactic(auto)]
+
+mod finding;
+mod geometry;
+mod header;
+mod order;
+mod said;
+mod vector;
+
+pub use finding::Finding;
