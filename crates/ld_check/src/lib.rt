@@ -1,6 +1,7 @@
 //! What is wrong with a part: its header, its lines, and the planes and points of what it draws.
 #![tactic(auto)]
 
+mod drawing;
 mod finding;
 mod geometry;
 mod header;
