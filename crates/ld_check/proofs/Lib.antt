@@ -1,2 +1,3 @@
 pub mod Behind
 pub mod Components
+pub mod Drawn

@@ -6,6 +6,7 @@ mod finding;
 mod geometry;
 mod header;
 mod order;
+mod passed;
 mod said;
 mod vector;
 

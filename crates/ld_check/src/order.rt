@@ -1,10 +1,10 @@
 // The order of a part's header lines (Official Library Header Specification).
-ghost use Rattle.std.specs.Prelude.{◌≡◌, ◌||◌, ℕ, Option};
+ghost use Rattle.std.specs.Prelude.{◌≡◌};
 ghost use Rattle.std.specs.Option.{option_map};
 ghost use Rattle.std.specs.Ordering.{nat_cmp};
 ghost use Rattle.ld_line.specs.Field.{fields};
 ghost use Rattle.ld_line.specs.Reading.{line_of};
-ghost use Rattle.ld_check.specs.Inside.Ranking.{place_of, rank_place};
+ghost use Rattle.ld_check.specs.Inside.Ranking.{IsHigher, place_of, rank_place};
 ghost use Rattle.ld_check.specs.Order.{is_below, is_body, is_statement, rank_of, rank_of_fields, rank_of_word};
 ghost use Rattle.ld_check.specs.declared.order.Rank.{Rank as SpecRank};
 
@@ -91,7 +91,7 @@ pub(crate) fn is_below(rank: Option<Rank>, earlier: Option<Rank>) -> bool
 
 // The higher of two ranks: what is below one of them is below it.
 pub(crate) fn higher(first: Option<Rank>, second: Option<Rank>) -> Option<Rank>
-    ensures { (rank : Option ℕ) → is_below rank (place_of result) ≡ (is_below rank (place_of first) || is_below rank (place_of second)) }
+    ensures { IsHigher first second result }
 {
     if first.is_none() || is_below(first, second) {
         second

@@ -1,6 +1,7 @@
 -- The places of ranks.
-use Rattle.std.specs.Prelude.{ℕ, Option}
+use Rattle.std.specs.Prelude.{◌≡◌, ◌||◌, ℕ, Option}
 use Rattle.std.specs.Option.{option_map}
+use Rattle.ld_check.specs.Order.{is_below}
 use Rattle.ld_check.specs.declared.order.Rank.{Rank}
 use Rattle.ld_check.specs.declared.order.Rank.TheVariants.{Help, Bfc, Category, Keywords, CommandLine, History}
 
@@ -14,3 +15,7 @@ rank_place History = 6
 
 abbrev pub place_of : Option Rank → Option ℕ
 place_of rank = option_map rank_place rank
+
+-- what is below one of two ranks is below the higher
+abbrev pub IsHigher : Option Rank → Option Rank → Option Rank → Type 0
+IsHigher first second higher = (rank : Option ℕ) → is_below rank (place_of higher) ≡ (is_below rank (place_of first) || is_below rank (place_of second))
