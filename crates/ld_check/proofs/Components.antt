@@ -1,5 +1,5 @@
 -- The last component of a name, behind one slash after another.
-use Rattle.std.proofs.Common.{◌≡◌, ◌+◌, ◌<◌, ◌≤◌, ◌==◌, ℕ, Bool, false, true, cond, List, [], ◌∷◌, drop, length, nat_lt, arith, refl, ap, sym, ◌∙◌, Option, Some, None, unwrap_or}
+use Rattle.std.proofs.Common.{◌≡◌, ◌+◌, ◌<◌, ◌≤◌, ◌==◌, ℕ, Bool, false, true, cond, List, [], ◌∷◌, drop, length, nat_lt, arith, refl, ap, sym, ◌∙◌, Some, None, unwrap_or}
 use Rattle.std.specs.List.{before_first, last_or, position, position_or_len, slice_split}
 use Rattle.std.proofs.lemmas.Bool.Decides.{nat_tests}
 use Rattle.std.proofs.lemmas.List.Splits.{length-slice_split, slice_split_first, slice_split_none}

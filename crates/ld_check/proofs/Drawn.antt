@@ -1,5 +1,5 @@
 -- What lines drew, one line after another.
-use Rattle.std.proofs.Common.{◌≡◌, ℕ, Bool, true, false, not, ◌||◌, cond, List, [], ◌∷◌, ◌++◌, Option, None, Some, ap, refl, subst, sym, ◌∙◌}
+use Rattle.std.proofs.Common.{◌≡◌, ℕ, Bool, true, false, not, ◌||◌, cond, List, [], ◌∷◌, ◌++◌, None, Some, ap, refl, sym, ◌∙◌}
 use Rattle.std.proofs.lemmas.Cmp.{and_equiv, int_eq_equiv, lists_equiv, nat_eq_equiv, on_equiv}
 use Rattle.std.specs.Cmp.{IsEquivalence}
 use Rattle.std.proofs.lemmas.List.Folds.{list_any-append}

@@ -1,6 +1,6 @@
 -- The findings of a text: each line and each rule that holds there, in order of line and then of rule. Their numbers are
 -- this project's own.
-use Rattle.std.specs.Prelude.{ℕ, ◌+◌, Bool, max, List, [], ◌∷◌, length, if◌then◌else◌}
+use Rattle.std.specs.Prelude.{ℕ, Bool, max, List, [], ◌∷◌, length, if◌then◌else◌}
 use Rattle.std.specs.List.{flat_map, range_with_len}
 use Rattle.ld_names.specs.declared.file.FileId.{FileId}
 use Rattle.ld_line.specs.Field.{fields}

@@ -1,11 +1,9 @@
 -- What a single line says: File Format 1.0.2, "Line Type 1" to "Line Type 5" and "Colours" (lines are drawn in the edge
 -- colour 24, faces are not). That fields behind the last are a finding is this project's own.
-use Rattle.std.specs.Prelude.{ℕ, ◌+◌, ◌*◌, Bool, true, false, ◌==◌, ◌&&◌, not, nat_lt, List, length, Some, None}
+use Rattle.std.specs.Prelude.{ℕ, ◌+◌, ◌*◌, Bool, true, false, ◌==◌, ◌&&◌, not, nat_lt, List, None}
 use Rattle.std.specs.List.{list_any}
-use Rattle.std.specs.Option.{option_map}
 use lib.Pointwise.{pointwise}
 use Rattle.ld_num.specs.Placing.{is_singular}
-use Rattle.ld_line.specs.Field.{fields}
 use Rattle.ld_line.specs.Kind.{points_in}
 use Rattle.ld_line.specs.Reading.{line_of}
 use Rattle.ld_line.specs.declared.line.Kind.{Kind}
@@ -13,7 +11,7 @@ use Rattle.ld_line.specs.declared.line.Kind.TheVariants.{Line2, Tri, Quad, Opt}
 use Rattle.ld_line.specs.declared.line.Line.{Line}
 use Rattle.ld_line.specs.declared.line.Line.TheVariants.{Draw, Malformed, OutOfRange, Ref}
 use Rattle.ld_check.specs.Geometry.{same_point}
-use Rattle.ld_check.specs.Text.{line_at, lines_before, passes, said}
+use Rattle.ld_check.specs.Text.{line_at, lines_before, passes}
 
 abbrev pub is_malformed : Line → Bool
 is_malformed Malformed = true

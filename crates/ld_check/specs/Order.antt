@@ -1,6 +1,6 @@
 -- The order of a part's header lines, which ends at the first line that refers or draws: Official Library Header
 -- Specification, "Header lines", and Back Face Culling Language Extension (a part states how it is culled before it draws).
-use Rattle.std.specs.Prelude.{ℕ, Bool, true, false, ◌&&◌, not, nat_lt, List, [], ◌∷◌, drop, take, Option, Some, None, if◌then◌else◌, bytes_eq, codes}
+use Rattle.std.specs.Prelude.{ℕ, Bool, true, false, ◌&&◌, not, nat_lt, List, ◌∷◌, drop, take, Option, Some, None, if◌then◌else◌, bytes_eq, codes}
 use Rattle.std.specs.List.{list_any}
 use Rattle.ld_line.specs.Field.{fields}
 use Rattle.ld_line.specs.Reading.{line_of}

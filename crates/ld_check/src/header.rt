@@ -3,7 +3,6 @@ ghost use Rattle.std.specs.Prelude.{◌≡◌, ◌++◌, ◌==◌, ◌<◌, posi
 ghost use Rattle.ld_line.specs.Field.{after_fields, fields};
 ghost use Rattle.ld_line.specs.Reading.{line_of};
 ghost use Rattle.ld_names.specs.Normal.{normal_of};
-
 ghost use Rattle.ld_check.specs.Inside.AtLine.{header_findings};
 ghost use Rattle.ld_check.specs.Header.{begins_with, has_value, is_description, is_part_type, last_component, names_another, normal_form, stated_name};
 
@@ -12,7 +11,7 @@ use ld_line::{header_line, split_field};
 use ld_names::{FileId, Name, NameError, normal};
 use std::alloc::{AllocError, Global};
 
-// Appends the findings of a header line; of a line that is missing, those of an empty one.
+// Appends the findings of a header line.
 pub(crate) fn check_header(
     alloc: Global,
     file: &FileId,

@@ -1,6 +1,7 @@
 //! What is wrong with a part: its header, its lines, and the planes and points of what it draws.
 #![tactic(auto)]
 
+mod checking;
 mod drawing;
 mod finding;
 mod geometry;
@@ -10,4 +11,5 @@ mod passed;
 mod said;
 mod vector;
 
+pub use checking::check;
 pub use finding::Finding;

@@ -127,7 +127,7 @@ impl Normal {
 
     pub(crate) fn dot(&self, side: &Side) -> i128
         ensures value { result ≡ dot self.now side.now }
-    ensures small { unsigned_abs result ≤ 48 * 10 ^ 36 }
+        ensures small { unsigned_abs result ≤ 48 * 10 ^ 36 }
     {
         let x = volume(self.x, side.x);
         let y = volume(self.y, side.y);

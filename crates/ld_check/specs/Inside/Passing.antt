@@ -1,8 +1,7 @@
 -- What is known of the lines that are passed.
-use Rattle.std.specs.Prelude.{◌≡◌, ◌+◌, ◌-◌, ◌++◌, ◌&&◌, not, false, ℕ, List, [], ◌∷◌, Option, Some, None, drop, take, length, nat_lt, slice_get, if◌then◌else◌}
+use Rattle.std.specs.Prelude.{◌≡◌, ◌-◌, ◌++◌, ◌&&◌, not, false, ℕ, List, Option, Some, None, drop, take, nat_lt, slice_get, if◌then◌else◌}
 use Rattle.std.specs.List.{list_any}
 use Rattle.ld_names.specs.declared.file.FileId.{FileId}
-use Rattle.ld_line.specs.Reading.{line_of}
 use Rattle.ld_line.specs.declared.line.Line.{Line}
 use Rattle.ld_check.specs.Findings.{findings_at}
 use Rattle.ld_check.specs.Inside.Drawn.{HasDrawn}

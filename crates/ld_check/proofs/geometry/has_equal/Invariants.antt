@@ -1,4 +1,4 @@
-use Rattle.std.proofs.Common.{◌≡◌, ℕ, length}
+use Rattle.std.proofs.Common.{◌≡◌, length}
 use Rattle.ld_check.specs.Geometry.{has_equal}
 use Rattle.ld_check.proofs.geometry.has_equal.Given as goal
 

@@ -1,4 +1,4 @@
-use Rattle.std.proofs.Common.{ap, nat_lt, length, sym, ◌∙◌}
+use Rattle.std.proofs.Common.{sym, ◌∙◌}
 use Rattle.ld_line.specs.Field.{fields}
 use Rattle.ld_check.proofs.Behind.{drop_one, none_left, some_left}
 use Rattle.ld_check.proofs.said.has_field_behind.Goals as goal
