@@ -1,3 +1,3 @@
 mod Lawful
-mod Marks
+mod Rgb
 mod Tables

@@ -1,4 +1,5 @@
 pub mod Colour
 pub mod Definition
 pub mod Laws
+pub mod Rgb
 pub mod Table

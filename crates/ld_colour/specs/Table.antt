@@ -1,6 +1,6 @@
 -- Tables of colours: Colour Definition Language Extension. That the last definition of a code counts, and that an EDGE
 -- code is looked up in the whole file, is this project's own.
-use Rattle.std.specs.Prelude.{◌≡◌, ◌+◌, ◌==◌, ℕ, List, [], ◌∷◌, map, Option, Some, None, IsSome, Result, Ok, Err, if◌then◌else◌}
+use Rattle.std.specs.Prelude.{◌≡◌, ◌+◌, ◌==◌, ℕ, true, IfSome, List, [], ◌∷◌, map, Option, Some, None, IsSome, Result, Ok, Err, if◌then◌else◌}
 use Rattle.std.specs.BTreeMap.{is_at}
 use Rattle.std.specs.Map.{lookup}
 use Rattle.std.specs.Ordering.{nat_cmp}
@@ -15,7 +15,9 @@ use Rattle.ld_colour.specs.declared.definition.Definition.{Definition}
 use Rattle.ld_colour.specs.declared.table.Table.{Table}
 use Rattle.ld_colour.specs.declared.table.TableError.{TableError}
 use Rattle.ld_colour.specs.declared.table.TableError.TheVariants.{BadColour, Memory}
+use Rattle.ld_colour.specs.Colour.{is_lawful}
 use Rattle.ld_colour.specs.Definition.{colour_line}
+use Rattle.ld_colour.specs.Rgb.{IsRgb}
 
 -- the definition that counts for each code
 abbrev pub Counting : Type 0
@@ -87,6 +89,10 @@ rgb_in table Edge = value_in table 24
 rgb_in table (Code code) = value_in table code
 rgb_in table (EdgeOf code) = edge_in table code
 rgb_in table (Direct value) = Some value
+
+-- what is found of lawful colours has eight bits each
+abbrev pub FindsRgb : Counting → Type 0
+FindsRgb table = (colour : Colour) → is_lawful colour ≡ true → IfSome (rgb_in table colour) IsRgb
 
 -- what counts so far, overruled by further definitions
 abbrev pub overruled : Counting → Result (List (ℕ × Definition)) ℕ → Result Counting ℕ

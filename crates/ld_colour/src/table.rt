@@ -1,7 +1,7 @@
 ghost use Rattle.std.specs.Prelude.{◌≡◌, ◌<◌, ◌+◌, ◌^◌, ◌∷◌, IfErr, IfOk, None, Ok, OnOk, length, map};
 ghost use Rattle.ld_line.specs.Cut.{lines_from};
 ghost use Rattle.ld_colour.specs.Definition.{colour_line};
-ghost use Rattle.ld_colour.specs.Table.{IsRefused, bad_in, counting, definitions_from, edge_in, overruled, refused_by, rgb_in, table_in, value_in};
+ghost use Rattle.ld_colour.specs.Table.{FindsRgb, IsRefused, bad_in, counting, definitions_from, edge_in, overruled, refused_by, rgb_in, table_in, value_in};
 
 use crate::colour::Colour;
 use crate::definition::{ColourLine, DefinedEdge, Definition, colour_line};
@@ -37,12 +37,16 @@ pub struct Table {
 }
 
 impl Model for Table {
-    ghost use Rattle.std.specs.Prelude.{List, ℕ};
+    ghost use Rattle.std.specs.Prelude.{List, ℕ, All};
+    ghost use Rattle.std.specs.Map.{values_of};
+    ghost use Rattle.ld_colour.specs.Rgb.{HasRgb};
     ghost use Rattle.ld_colour.specs.declared.definition.Definition.{Definition};
 
     ghost Value = { List (ℕ × Definition) };
 
     ghost view = { λ table. table.definitions.entries };
+
+    ghost invariant = { λ table. All HasRgb (values_of table.definitions.entries) };
 }
 
 impl Table {
@@ -105,6 +109,13 @@ impl Table {
             Colour::EdgeOf(code) => self.edge_value(code),
             Colour::Direct(value) => Some(value),
         }
+    }
+
+    /// Red, green and blue have eight bits each in every value that is found of a lawful colour.
+    pub fn rgb_law(&self)
+        ensures { FindsRgb (counting self.now) }
+    {
+        let _ = &self.definitions;
     }
 
     fn value(&self, code: u32) -> Option<u32>

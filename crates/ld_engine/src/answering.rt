@@ -56,6 +56,11 @@ fn tint(colour: Colour, entries: &mut Vec<Entry>)
     ensures { entries.new.items ≡ map (tinted_entry colour) entries.old.items }
 {
     let _: [Point; 0] = NO_POINTS;
+    // Every colour stays under the main colour.
+    if colour == Colour::Main {
+        under_laws();
+        return;
+    }
     for index in 0..entries.len() {
         entries[index] = tinted(colour, entries[index]);
     }

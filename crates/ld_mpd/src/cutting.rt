@@ -80,9 +80,13 @@ impl Found {
         ensures left { IfOk result (λ rest. BeginsSame (lines_from rest.now) (lines_from text.now)) }
         ensures shorter { IfOk result (λ rest. length rest.now ≤ length text.now) }
     {
-        match behind_file(text) {
-            Some(_) => Ok(text),
-            None => self.add(alloc, false, own.copy(alloc)?, text),
+        let (lines, rest) = lines_inside(alloc, text)?;
+        match behind_file(rest) {
+            Some(_) => Ok(rest),
+            None => {
+                self.push(alloc, false, own.copy(alloc)?, lines)?;
+                Ok(rest)
+            }
         }
     }
 
@@ -125,16 +129,32 @@ impl Found {
         ensures left { IfOk result (λ rest. BeginsSame (lines_from rest.now) (lines_from text.now)) }
         ensures shorter { IfOk result (λ rest. length rest.now ≤ length text.now) }
     {
-        if !self.seen.insert(is_data, name.copy(alloc)?)? {
-            return Ok(text);
-        }
         let (lines, rest) = lines_inside(alloc, text)?;
-        self.blocks.push(Block {
-            name,
-            lines,
-            is_data,
-        })?;
+        self.push(alloc, is_data, name, lines)?;
         Ok(rest)
+    }
+
+    // Adds a block unless one of its kind and name was found.
+    fn push(
+        &mut self,
+        alloc: Global,
+        is_data: bool,
+        name: Name,
+        lines: Lines,
+    ) -> Result<(), AllocError>
+        requires { HasSeen self.old.seen self.old.blocks.items }
+        ensures blocks { OnOk result (self.new.blocks.items ≡ self.old.blocks.items
+            ++ firsts self.old.blocks.items (block is_data name lines ∷ [])) }
+        ensures seen { OnOk result (HasSeen self.new.seen self.new.blocks.items) }
+    {
+        if self.seen.insert(is_data, name.copy(alloc)?)? {
+            self.blocks.push(Block {
+                name,
+                lines,
+                is_data,
+            })?;
+        }
+        Ok(())
     }
 }
 
@@ -179,6 +199,7 @@ fn behind_file(text: &[u8]) -> Option<&[u8]>
 fn lines_inside(alloc: Global, text: &[u8]) -> Result<(Lines, &[u8]), AllocError>
     ensures lines { IfOk result (λ cut. cut.0 ≡ inside (lines_from text.now)) }
     ensures left { IfOk result (λ cut. BeginsSame (lines_from cut.1.now) (lines_from text.now)) }
+    ensures file { IfOk result (λ cut. behind_file (lines_from cut.1.now) ≡ behind_file (lines_from text.now)) }
     ensures shorter { IfOk result (λ cut. length cut.1.now ≤ length text.now) }
     ensures memory { OnErr result (inside (lines_from text.now) ≢ []) }
 {
@@ -196,6 +217,7 @@ fn line_inside(text: &[u8]) -> Option<(&[u8], &[u8])>
     ensures lines { MatchOption result (inside (lines_from text.now) ≡ [])
         (λ cut. inside (lines_from text.now) ≡ cut.0.now ∷ inside (lines_from cut.1.now)) }
     ensures left { IfSome result (λ cut. BeginsSame (lines_from cut.1.now) (lines_from text.now)) }
+    ensures file { IfSome result (λ cut. behind_file (lines_from cut.1.now) ≡ behind_file (lines_from text.now)) }
     ensures shorter { IfSome result (λ cut. length cut.1.now < length text.now) }
 {
     let Some((line, more)) = split_line(text) else {

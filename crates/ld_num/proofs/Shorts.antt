@@ -1,5 +1,5 @@
 -- Short numbers, put together from their digits.
-use Rattle.std.proofs.Common.{◌≡◌, ℕ, zero, suc, ◌+◌, ◌-◌, ◌/◌, ◌%◌, ◌^◌, ◌<◌, ◌≤◌, Bool, true, false, List, [], ◌∷◌, ◌++◌, length, take, ℤ, pos, negsuc, int_lt, nat_lt, ◌==◌, unsigned_abs, arith, refl, sym, ◌∙◌, ap, append-nil}
+use Rattle.std.proofs.Common.{◌≡◌, ℕ, zero, suc, ◌+◌, ◌-◌, ◌/◌, ◌%◌, ◌^◌, ◌<◌, ◌≤◌, Bool, true, false, cond, List, [], ◌∷◌, ◌++◌, length, take, drop, if◌then◌else◌, ℤ, pos, negsuc, int_lt, nat_lt, ◌==◌, unsigned_abs, arith, refl, sym, ◌∙◌, ap, append-nil}
 use Rattle.std.specs.Fmt.{decimal}
 use Rattle.std.specs.List.{suffix_len}
 use Rattle.std.proofs.Math.Seq.{take-append-add, take-append_seam}
@@ -43,6 +43,20 @@ three_are n low high =
     let e : n / 10 / 10 % 10 ≡ n / 10 / 10 = omega arith in
     decimal_step n (omega arith) (omega arith) ∙ ap (λ ds. ds ++ ((48 + n % 10) ∷ [])) (two_digits (n / 10) (omega arith) (omega arith)) ∙ ap (λ k. (48 + k) ∷ (48 + n / 10 % 10) ∷ (48 + n % 10) ∷ []) e
 
+pub signed_is : (is_negative : Bool) (ws : List ℕ) → drop (if is_negative then 0 else 1) (45 ∷ ws) ≡ minus_if is_negative ++ ws
+signed_is true ws = refl
+signed_is false ws = refl
+
+-- a whole number has no fraction
+pub whole_is : (is_negative : Bool) (size : ℕ) → size % 1000000 ≡ 0 → short_text is_negative size ≡ minus_if is_negative ++ decimal (size / 1000000)
+whole_is is_negative size h =
+    let a : size / 100000 % 10 ≡ 0 = omega arith in
+    let b : size / 10000 % 10 ≡ 0 = omega arith in
+    let c : size / 1000 % 10 ≡ 0 = omega arith in
+    let d : size / 100 % 10 ≡ 0 = omega arith in
+    let e : size / 10 % 10 ≡ 0 = omega arith in
+    let f : size % 10 ≡ 0 = omega arith in rw (a, b, c, d, e, f) (append-nil (minus_if is_negative ++ decimal (size / 1000000)))
+
 -- ---- the part of the text that is shown
 
 window_none : (is_negative : Bool) (ws rest : List ℕ) (point : ℕ) → point ≡ length ws + 1 → window (45 ∷ (ws ++ rest)) point 0 is_negative ≡ minus_if is_negative ++ ws ++ []
@@ -72,3 +86,26 @@ window_is is_negative ws d ds point (suc k) p = window_some is_negative ws d ds 
 pub short_is : (is_negative : Bool) (size : ℕ) (ws : List ℕ) (point count : ℕ) → decimal (size / 1000000) ≡ ws → point ≡ length ws + 1 → count ≡ length (six_digits size) - suffix_len (λ b. b == 48) (six_digits size) → window (45 ∷ (ws ++ 46 ∷ six_digits size)) point count is_negative ≡ short_text is_negative size
 short_is is_negative size ws point count whole p k =
     window_is is_negative ws (48 + size / 100000 % 10) ((48 + size / 10000 % 10) ∷ (48 + size / 1000 % 10) ∷ (48 + size / 100 % 10) ∷ (48 + size / 10 % 10) ∷ (48 + size % 10) ∷ []) point count p ∙ ap (λ n. minus_if is_negative ++ ws ++ after_period (take n (six_digits size))) k ∙ ap (λ ws. minus_if is_negative ++ ws ++ after_period (without_last_zeros (six_digits size))) (sym whole)
+
+-- ---- thousandths
+
+-- zeros at the end are not shown
+no_zeros : (is_z is_y is_x : Bool) (x y z : ℕ) → take (6 - (1 + (1 + (1 + cond is_z (1 + cond is_y (1 + cond is_x (1 + 0) 0) 0) 0)))) (x ∷ y ∷ z ∷ 48 ∷ 48 ∷ 48 ∷ []) ≡ take (3 - cond is_z (1 + cond is_y (1 + cond is_x (1 + 0) 0) 0) 0) (x ∷ y ∷ z ∷ [])
+no_zeros false is_y is_x x y z = refl
+no_zeros true false is_x x y z = refl
+no_zeros true true false x y z = refl
+no_zeros true true true x y z = refl
+
+shown_places : (x y z : ℕ) → without_last_zeros (x ∷ y ∷ z ∷ 48 ∷ 48 ∷ 48 ∷ []) ≡ without_last_zeros (x ∷ y ∷ z ∷ [])
+shown_places x y z = no_zeros (z == 48) (y == 48) (x == 48) x y z
+
+thousandths_shown : (size : ℕ) → size % 1000 ≡ 0 → without_last_zeros (six_digits size) ≡ without_last_zeros (three_digits (size % 1000000 / 1000))
+thousandths_shown size h =
+    let none : size % 1000000 % 1000 ≡ 0 = omega arith in
+    let places = size % 1000000 / 1000 in
+    ap without_last_zeros (sym (six_by_threes size)) ∙ ap (λ n. without_last_zeros (three_digits places ++ three_digits n)) none ∙ shown_places (48 + places / 10 / 10) (48 + places / 10 % 10) (48 + places % 10)
+
+pub thousandths_are : (is_negative : Bool) (size : ℕ) (ws : List ℕ) (point count : ℕ) → size % 1000 ≡ 0 → decimal (size / 1000000) ≡ ws → point ≡ length ws + 1 → count ≡ length (three_digits (size % 1000000 / 1000)) - suffix_len (λ b. b == 48) (three_digits (size % 1000000 / 1000)) → window (45 ∷ (ws ++ 46 ∷ three_digits (size % 1000000 / 1000))) point count is_negative ≡ short_text is_negative size
+thousandths_are is_negative size ws point count h whole p k =
+    let places = size % 1000000 / 1000 in
+    window_is is_negative ws (48 + places / 10 / 10) ((48 + places / 10 % 10) ∷ (48 + places % 10) ∷ []) point count p ∙ ap (λ n. minus_if is_negative ++ ws ++ after_period (take n (three_digits places))) k ∙ ap (λ ds. minus_if is_negative ++ ws ++ after_period ds) (sym (thousandths_shown size h)) ∙ ap (λ ws. minus_if is_negative ++ ws ++ after_period (without_last_zeros (six_digits size))) (sym whole)

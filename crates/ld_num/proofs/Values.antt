@@ -84,6 +84,12 @@ capped_one n c s i ds digit h e =
     let d = digit_value_digit (get_or ds i 0) in_range in
     rw (take_more ds i 0 h, value-append n (take i ds) (get_or ds i 0 ∷ [])) (omega arith)
 
+-- the same where the number is far below the cap
+pub small_one : (n s i : ℕ) (ds : List ℕ) → is_ascii_digit (get_or ds i 0) ≡ true → i < length ds → s ≤ 2000000000 → s ≡ min (digits_value_after 10 n (take i ds)) 1000000000001 → s * 10 + (get_or ds i 0 - 48) ≡ min (digits_value_after 10 n (take (i + 1) ds)) 1000000000001
+small_one n s i ds digit h small e =
+    let in_range : IsInRange 48 57 (get_or ds i 0) = grind (arith, nat_tests) in
+    let capped = capped_one n 1000000000001 s i ds digit h e in omega arith
+
 pub capped_more : (n c s i : ℕ) (ds : List ℕ) → AllDigits 10 ds → i < length ds → s ≡ min (digits_value_after 10 n (take i ds)) c → min (s * 10 + (get_or ds i 0 - 48)) c ≡ min (digits_value_after 10 n (take (i + 1) ds)) c
 capped_more n c s i ds digits h e =
     let d = digit_value_digit (get_or ds i 0) (digit_at ds i digits h) in

@@ -1,5 +1,5 @@
 // Digits, and the numbers that they write.
-ghost use Rattle.std.specs.Prelude.{◌≡◌, ◌^◌, ◌+◌, ◌*◌, ◌<◌, ◌≤◌, length, min, take, nat_le, slice_index, if◌then◌else◌};
+ghost use Rattle.std.specs.Prelude.{◌≡◌, ◌^◌, ◌+◌, ◌*◌, ◌<◌, ◌≤◌, length, min, take, IfSome, nat_le, slice_index, if◌then◌else◌};
 ghost use Rattle.std.specs.Char.{is_ascii_digit};
 ghost use Rattle.std.specs.List.{prefix_len};
 ghost use Rattle.std.specs.Str.Parse.{AllDigits, digits_value_after};
@@ -23,21 +23,28 @@ pub(crate) fn digit_count(text: &[u8]) -> usize
     text.len()
 }
 
-// The number that the digits at the front write when they follow those of `start`, and how many they are.
-pub(crate) fn front_number(start: u64, text: &[u8]) -> (u64, usize)
+// Numbers up to here get one more digit at the front of a text.
+const MOST_FRONT: u64 = 2_000_000_000;
+
+// The number that the digits at the front write when they follow those of `start`, and how many they are. `None` for
+// some great numbers.
+pub(crate) fn front_number(start: u64, text: &[u8]) -> Option<(u64, usize)>
     requires { start ≤ TOO_LARGE }
-    ensures number { result.0 ≡ min (digits_value_after 10 start (take result.1 text.now)) TOO_LARGE }
-    ensures count { result.1 ≡ prefix_len is_ascii_digit text.now }
-    ensures within { result.1 ≤ length text.now }
+    ensures number { IfSome result (λ front. front.0 ≡ min (digits_value_after 10 start (take front.1 text.now)) TOO_LARGE) }
+    ensures count { IfSome result (λ front. front.1 ≡ prefix_len is_ascii_digit text.now) }
+    ensures within { IfSome result (λ front. front.1 ≤ length text.now) }
 {
     let mut number = start;
     for (index, byte) in text.iter().enumerate() {
         if !byte.is_ascii_digit() {
-            return (number, index);
+            return Some((number, index));
         }
-        number = (number * 10 + u64::from(*byte - b'0')).min(TOO_LARGE);
+        if number > MOST_FRONT {
+            return None;
+        }
+        number = number * 10 + u64::from(*byte - b'0');
     }
-    (number, text.len())
+    Some((number, text.len()))
 }
 
 // The number that the digits write when they follow those of `start`.

@@ -15,7 +15,7 @@ use crate::scale::scaled;
 pub(crate) fn front_size(text: &[u8]) -> Option<(u64, usize)>
     ensures { IfSome result (λ front. IsFront text.now front.0 front.1) }
 {
-    let (whole, count) = front_number(0, text);
+    let (whole, count) = front_number(0, text)?;
     let (_, rest) = text.split_at(count);
     let Some(fraction) = after_period(rest) else {
         return if count == 0 {
@@ -24,7 +24,7 @@ pub(crate) fn front_size(text: &[u8]) -> Option<(u64, usize)>
             Some((with_few_zeros(whole, 6), count))
         };
     };
-    let (number, places) = front_number(whole, fraction);
+    let (number, places) = front_number(whole, fraction)?;
     if places == 0 || places > 6 {
         return None;
     }

@@ -1,5 +1,7 @@
-ghost use Rattle.std.specs.Prelude.{◌≡◌, ◌+◌, ◌-◌, ◌^◌, ◌<◌, ◌≤◌, ◌==◌, ◌++◌, length, OnOk, OnErr};
+ghost use Rattle.std.specs.Prelude.{◌≡◌, ◌+◌, ◌-◌, ◌^◌, ◌%◌, ◌<◌, ◌≤◌, ◌==◌, ◌++◌, drop, length, if◌then◌else◌, OnOk, OnErr};
 ghost use Rattle.std.specs.List.{suffix_len};
+ghost use Rattle.std.specs.Fmt.{decimal};
+ghost use Rattle.ld_num.specs.Front.{minus_if};
 ghost use Rattle.ld_num.specs.Number.{dec_of};
 ghost use Rattle.ld_num.specs.Text.{after_period, dec_text, sign_text, six_digits, without_last_zeros};
 ghost use Rattle.ld_num.specs.Short.{short_text, three_digits, window};
@@ -12,18 +14,46 @@ const MILLION: u64 = 1_000_000;
 
 /// Appends a number in decimals: `-` where it is negative, the whole part without leading zeros, and, where there is
 /// a fraction, a period and its digits without trailing zeros. Zero is `0`.
-#[tactic(auto, using(crate::proofs::Printed::dec_again, crate::proofs::Shorts::dec_text_is))]
+#[tactic(auto, using(crate::proofs::Printed::dec_again, crate::proofs::Shorts::dec_text_is, crate::proofs::Shorts::whole_is))]
 pub fn print_dec(value: Dec, into: &mut Vec<u8>) -> Result<(), AllocError>
     ensures ok { OnOk result (into.new.items ≡ into.old.items ++ dec_text value) }
     ensures err { OnErr result (into.new.items ≡ into.old.items) }
     ensures read_back { dec_of (dec_text value) ≡ Ok value }
 {
     let size = value.millionths().unsigned_abs();
-    if size < 1_000 * MILLION {
-        print_short(size, value.millionths() < 0, into)
-    } else {
+    if size >= 1_000 * MILLION {
         print_long(value, into)
+    } else if size % MILLION == 0 {
+        print_whole((size / MILLION) as u32, value.millionths() < 0, into)
+    } else if size % 1_000 == 0 {
+        print_thousandths(size, value.millionths() < 0, into)
+    } else {
+        print_short(size, value.millionths() < 0, into)
     }
+}
+
+// A whole number below a thousand.
+fn print_whole(number: u32, is_negative: bool, into: &mut Vec<u8>) -> Result<(), AllocError>
+    requires { number < 1000 }
+    ensures ok { OnOk result (into.new.items ≡ into.old.items ++ (minus_if is_negative ++ decimal number)) }
+    ensures err { OnErr result (into.new.items ≡ into.old.items) }
+{
+    let [h, t, u] = three_digits(number);
+    if number >= 100 {
+        into.extend_from_slice(signed(&[b'-', h, t, u], is_negative))
+    } else if number >= 10 {
+        into.extend_from_slice(signed(&[b'-', t, u], is_negative))
+    } else {
+        into.extend_from_slice(signed(&[b'-', u], is_negative))
+    }
+}
+
+// A text with its minus only where the number is negative.
+fn signed(text: &[u8], is_negative: bool) -> &[u8]
+    requires { 0 < length text.now }
+    ensures { result.now ≡ drop (if is_negative then 0 else 1) text.now }
+{
+    if is_negative { text } else { &text[1..] }
 }
 
 // A size below a thousand, whose text has few forms, is appended at once.
@@ -44,6 +74,29 @@ fn print_short(size: u64, is_negative: bool, into: &mut Vec<u8>) -> Result<(), A
         into.extend_from_slice(window(&text, 3, count, is_negative))
     } else {
         let text = [b'-', u, b'.', a, b, c, d, e, f];
+        into.extend_from_slice(window(&text, 2, count, is_negative))
+    }
+}
+
+// The same for a whole number of thousandths.
+fn print_thousandths(size: u64, is_negative: bool, into: &mut Vec<u8>) -> Result<(), AllocError>
+    requires short { size < 10 ^ 9 }
+    requires thousandths { size % 1000 ≡ 0 }
+    ensures ok { OnOk result (into.new.items ≡ into.old.items ++ short_text is_negative size) }
+    ensures err { OnErr result (into.new.items ≡ into.old.items) }
+{
+    let [h, t, u] = three_digits((size / MILLION) as u32);
+    let places = three_digits((size % MILLION) as u32 / 1_000);
+    let count = kept(&places);
+    let [a, b, c] = places;
+    if size >= 100 * MILLION {
+        let text = [b'-', h, t, u, b'.', a, b, c];
+        into.extend_from_slice(window(&text, 4, count, is_negative))
+    } else if size >= 10 * MILLION {
+        let text = [b'-', t, u, b'.', a, b, c];
+        into.extend_from_slice(window(&text, 3, count, is_negative))
+    } else {
+        let text = [b'-', u, b'.', a, b, c];
         into.extend_from_slice(window(&text, 2, count, is_negative))
     }
 }

@@ -1,5 +1,5 @@
 -- A text is taken, changed and put back: that is the edit.
-use Rattle.std.proofs.Common.{◌≡◌, ◌≤◌, ◌<◌, ◌+◌, ◌-◌, ◌^◌, ℕ, Bool, true, false, List, [], ◌∷◌, length, Option, Some, None, sym, ap, refl, ◌∙◌, option_map, option_and_then, arith, slice_set}
+use Rattle.std.proofs.Common.{◌≡◌, ◌≤◌, ◌<◌, ◌+◌, ◌-◌, ◌^◌, ℕ, false, List, [], length, Some, None, sym, ap, refl, ◌∙◌, option_map, arith, slice_set}
 use Rattle.std.specs.List.{insert}
 use Rattle.std.specs.Map.{set_value}
 use Rattle.std.specs.Option.{is_some}

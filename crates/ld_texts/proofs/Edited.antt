@@ -1,18 +1,18 @@
 -- What an edit leaves and what it changes: proofs of the laws.
-use Rattle.std.proofs.Common.{◌≡◌, ◌≤◌, ◌<◌, ◌+◌, ◌-◌, ◌||◌, ℕ, Bool, true, false, cond, List, [], ◌∷◌, length, map, Option, Some, None, sym, ap, refl, ◌∙◌, subst, option_map, option_and_then, unwrap_or, get_or, arith, IsSome, inl, inr, position, slice_get, slice_set}
+use Rattle.std.proofs.Common.{◌≡◌, ◌≤◌, ◌-◌, ◌||◌, ℕ, Bool, true, false, cond, List, [], ◌∷◌, length, map, Option, Some, None, sym, ap, refl, ◌∙◌, subst, option_map, option_and_then, unwrap_or, arith, IsSome, inl, inr, position, slice_get, slice_set}
 use Rattle.std.specs.Prelude.{not, ⊤}
 use Rattle.std.specs.List.{IsDistinct, insert, list_any, remove}
-use Rattle.std.specs.Map.{keys_of, lookup, set_value}
+use Rattle.std.specs.Map.{lookup, set_value}
 use Rattle.std.specs.Option.{is_none, is_some, option_or}
 use Rattle.std.proofs.lemmas.Bool.{cases_Bool}
 use Rattle.std.proofs.lemmas.List.{length-map}
-use Rattle.std.proofs.lemmas.Map.{keys-set_value, length-set_value, lookup-set_value}
+use Rattle.std.proofs.lemmas.Map.{keys-set_value, lookup-set_value}
 use Rattle.ld_names.specs.declared.file.FileId.{FileId}
 use Rattle.ld_names.specs.Finding.{IsFileEquality}
 use Rattle.ld_names.specs.Standing.{Known, Map, Text, known_map, same_file, standing}
 use Rattle.ld_texts.specs.Editing.{AreKnown, edit_change, edited, edited_map, files_in, is_block_text, map_with_texts, misfit, moved, misses, names, refusal_of, refused_if, text_in, text_of, turned, with_texts, written_by}
 use Rattle.ld_texts.specs.EditLaws.{EditLaws, EditsMaps, Keeps, Weighs, grows}
-use Rattle.ld_texts.specs.Known.{AreDistinct, file_at, files_of, id_of, is_part_at, lines_at, weight_of}
+use Rattle.ld_texts.specs.Known.{file_at, files_of, id_of, is_part_at, lines_at, weight_of}
 use Rattle.ld_texts.specs.Learning.{Apply, Learn, Ready, change_of, edit_in, known_after}
 use Rattle.ld_texts.specs.declared.change.Change.{Change}
 use Rattle.ld_texts.specs.declared.change.Turned.{Turned}

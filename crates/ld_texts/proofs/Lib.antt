@@ -1,3 +1,4 @@
+pub mod Blocks
 pub mod Changed
 pub mod Edited
 pub mod Files

@@ -15,7 +15,7 @@ use Rattle.ld_texts.specs.declared.edit.Edit.{Edit}
 use Rattle.ld_texts.specs.declared.edit.Edit.TheVariants.{Set, Insert, Delete, New, Drop, Move}
 use Rattle.ld_texts.specs.declared.edit.EditRefusal.{EditRefusal}
 use Rattle.ld_texts.specs.declared.edit.EditRefusal.TheVariants.{BadLine, NoFile, FileThere, NoLine, Full}
-use Rattle.ld_texts.proofs.Placed.{id_of-lt-length, id_of-with_text_at, lines_at-le-weight_of, text_of-is, weight_of-with_text_at, written-is, written_at}
+use Rattle.ld_texts.proofs.Placed.{id_of-lt-length, lines_at-le-weight_of, text_of-is, weight_of-with_text_at, written-is, written_at}
 
 -- ---- an edit that is not refused
 

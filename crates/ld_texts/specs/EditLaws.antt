@@ -1,13 +1,13 @@
 -- What an edit leaves and what it changes: over the known files, over what is known of each file, and over the texts as
 -- they stand.
-use Rattle.std.specs.Prelude.{◌≡◌, ◌≤◌, ◌<◌, ◌+◌, ◌-◌, ◌==◌, ℕ, Bool, true, false, [], List, length, Some, get_or}
+use Rattle.std.specs.Prelude.{◌≡◌, ◌≤◌, ◌<◌, ◌+◌, ◌-◌, ℕ, Bool, true, false, [], List, length, Some, None, get_or}
 use Rattle.std.specs.List.{list_all}
 use Rattle.ld_names.specs.declared.file.FileId.{FileId}
 use Rattle.ld_names.specs.Standing.{Known, Text, known_map, standing}
 use Rattle.ld_texts.specs.Editing.{AreKnown, edit_change, edited, edited_map, files_in, is_block_text, misfit, names, refusal_of, text_in, text_of}
 use Rattle.ld_texts.specs.Known.{AreDistinct, file_at, files_of, id_of, is_part_at, lines_at, weight_of}
 use Rattle.ld_texts.specs.declared.edit.Edit.{Edit}
-use Rattle.ld_texts.specs.declared.edit.Edit.TheVariants.{Set, Insert, Delete, New, Drop, Move}
+use Rattle.ld_texts.specs.declared.edit.Edit.TheVariants.{Set, Insert}
 
 -- every file keeps its number, and the files that the edit does not name keep their texts
 pub record Keeps (known : Known) (edit : Edit) : Type 0 where
@@ -41,3 +41,15 @@ pub record Weighs (known : Known) : Type 0 where
 
 abbrev pub EditLaws : Type 0
 EditLaws = (known : Known) (edit : Edit) → Keeps known edit × EditsMaps known edit × Weighs known
+
+-- a text whose lines a block may hold
+abbrev pub is_of_block_lines : Text → Bool
+is_of_block_lines None = true
+is_of_block_lines (Some lines) = list_all is_block_text lines
+
+abbrev pub are_of_block_lines : Known → Bool
+are_of_block_lines known = list_all (λ entry. is_of_block_lines entry.1) known
+
+-- an edit that is not refused leaves texts of such lines
+abbrev pub KeepsBlockLines : Type 0
+KeepsBlockLines = (max_weight : ℕ) (known : Known) (edit : Edit) → refusal_of max_weight known edit ≡ None → are_of_block_lines known ≡ true → are_of_block_lines (edited known edit) ≡ true

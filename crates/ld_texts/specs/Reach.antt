@@ -1,6 +1,6 @@
 -- What a text reaches by its references, and which file is wanted next: File Format 1.0.2 ("Line Type 1"); the order
 -- is this project's own.
-use Rattle.std.specs.Prelude.{◌≡◌, ◌==◌, ◌++◌, ℕ, zero, suc, List, [], ◌∷◌, length, map, slice_get, Option, Some, None, if◌then◌else◌}
+use Rattle.std.specs.Prelude.{◌==◌, ◌++◌, ℕ, zero, suc, List, [], ◌∷◌, length, slice_get, Option, Some, None, if◌then◌else◌}
 use Rattle.std.specs.List.{list_any}
 use Rattle.ld_names.specs.Standing.{Found, Present, Absent, Unknown, Known, Text, find, known_map}
 use Rattle.ld_names.specs.declared.file.FileId.{FileId}

@@ -1,4 +1,4 @@
-ghost use Rattle.ld_texts.specs.EditLaws.{EditLaws};
+ghost use Rattle.ld_texts.specs.EditLaws.{EditLaws, KeepsBlockLines};
 ghost use Rattle.ld_texts.specs.Laws.{LearningNumbers, LinesAgree, NumbersAgree, ReadyStays};
 
 use ld_names::file_laws;
@@ -34,3 +34,9 @@ pub fn edit_law()
 {
     file_laws();
 }
+
+/// An edit leaves each line one that a block may hold: without a line feed, and it neither begins nor
+/// ends a block (MPD Language Extension).
+pub fn block_law()
+    ensures { KeepsBlockLines }
+{}

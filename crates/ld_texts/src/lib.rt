@@ -4,8 +4,6 @@
 mod change;
 mod changing;
 mod edit;
-#[cfg(test)]
-mod edit_tests;
 mod ids;
 mod laws;
 mod preparing;
@@ -17,6 +15,6 @@ mod texts;
 
 pub use change::{Change, LearnError, Over, Turned};
 pub use edit::{Edit, EditRefusal, PrepareError};
-pub use laws::{edit_law, learning_law, line_law, number_law, ready_law};
+pub use laws::{block_law, edit_law, learning_law, line_law, number_law, ready_law};
 pub use ready::Ready;
 pub use texts::Texts;

@@ -1,8 +1,14 @@
-use Rattle.std.proofs.Common.{◌≡◌, ◌∙◌, sym, map}
+use Rattle.std.proofs.Common.{◌≡◌, ◌∙◌, ℕ, List, sym, subst, map, nat_cmp}
+use Rattle.std.specs.Prelude.{All}
+use Rattle.std.specs.Map.{values_of}
+use Rattle.std.proofs.lemmas.Map.Views.{All-values-insert_entry}
 use Rattle.ld_line.specs.Cut.{lines_from}
 use Rattle.ld_colour.specs.declared.definition.ColourLine.TheVariants.{Defines}
+use Rattle.ld_colour.specs.declared.definition.Definition.{Definition}
 use Rattle.ld_colour.specs.Definition.{colour_line}
+use Rattle.ld_colour.specs.Rgb.{HasRgb}
 use Rattle.ld_colour.specs.Table.{counting}
+use Rattle.ld_colour.proofs.Rgb.{DefinesRgb, line-rgb}
 use Rattle.ld_colour.proofs.Tables.{refused_step}
 use Rattle.ld_colour.proofs.table.Table.enter.Goals as goal
 use Rattle.ld_colour.proofs.table.Table.enter.Goals.{in-Ok, in-Err}
@@ -13,4 +19,16 @@ returns-after-insert-clause-refused c =
     elim c.match-insert.branch [
       | in-Ok w ↦ rw w.result-is tt
       | in-Err w ↦ rw w.result-is (refused_step (counting c.args.self.now) c.args.number c.args.line.now (map colour_line (lines_from c.args.behind.now)) c.in-Defines.code c.in-Defines.definition w.refusal.result defines w.refusal.ensures)
+    ]
+
+abbrev AllRgb : List (ℕ × Definition) → Type 0
+AllRgb entries = All HasRgb (values_of entries)
+
+pub invariant_of-self : goal.invariant_of-self
+invariant_of-self c =
+    let defines : colour_line c.args.line.now ≡ Defines c.in-Defines.code c.in-Defines.definition = sym c.colour_line.ensures ∙ c.in-Defines.is in
+    let rgb : HasRgb c.in-Defines.definition = subst DefinesRgb defines (line-rgb c.args.line.now) in
+    elim c.match-insert.branch [
+      | in-Ok w ↦ subst AllRgb (sym (w.in-Ok.ensures.entries)) (All-values-insert_entry nat_cmp c.in-Defines.code c.in-Defines.definition HasRgb c.self.inside.definitions.entries c.self.invariant rgb)
+      | in-Err w ↦ subst AllRgb (sym (w.in-Err.ensures.err)) c.self.invariant
     ]

@@ -1,4 +1,4 @@
-use Rattle.std.proofs.Common.{◌≡◌, ◌<◌, ap, sym, subst, ◌∙◌, Some}
+use Rattle.std.proofs.Common.{◌≡◌, ap, sym, ◌∙◌, Some}
 use Rattle.ld_texts.specs.Known.{lines_at}
 use Rattle.ld_texts.specs.Editing.{edited}
 use Rattle.ld_texts.specs.Inside.Placed.{with_text_at}
