@@ -16,6 +16,7 @@ use Rattle.ld_engine.specs.declared.asking.AnswerError.TheVariants.{Fault, ReadF
 use Rattle.ld_engine.specs.declared.limits.Limits.{Limits}
 use Rattle.ld_colour.specs.Colour.{colour_of}
 use Rattle.ld_words.specs.Words.{Options}
+use Rattle.ld_cmd.specs.Written.{Output}
 use Rattle.ld_cmd.specs.Output.{limits_of, main_output, queried_output}
 use Rattle.ld_cmd.specs.Querying.{Queried, Queries, answer_at, answer_queried, answered_as, queried, where_there}
 use Rattle.ld_cmd.specs.Querying as query
@@ -45,7 +46,7 @@ module _ (limits : Limits) (files : Files) (root : FileId) (colour : Colour) (ol
   query-told (Err Memory) is told = tt
 
 -- the output of a query is that of what it comes to
-pub main-told : (show : Known → Answer → List ℕ) (options : Options) (files : Files) (main : FileId) (old new : Known) (found : Option Queried) → IfSome found (λ given. Queries (limits_of options) files main (colour_of options.main) old new given) → IfSome found (λ given. queried_output show new given ≡ main_output show options files (Some main) old)
+pub main-told : (show : Known → Answer → Output) (options : Options) (files : Files) (main : FileId) (old new : Known) (found : Option Queried) → IfSome found (λ given. Queries (limits_of options) files main (colour_of options.main) old new given) → IfSome found (λ given. queried_output show new given ≡ main_output show options files (Some main) old)
 main-told show options files main old new None is = tt
 main-told show options files main old new (Some given) is =
     let all = learning (limits_of options) files main old in

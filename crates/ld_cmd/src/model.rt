@@ -7,13 +7,14 @@ ghost use Rattle.ld_colour.specs.Table.{counting};
 ghost use Rattle.ld_engine.specs.Limits.{bad_limit};
 ghost use Rattle.ld_engine.specs.Loading.{load, main_of};
 ghost use Rattle.ld_report.specs.Entries.{fault_text};
+ghost use Rattle.ld_steps.specs.Laws.{AreSteps};
 ghost use Rattle.ld_words.specs.Shown.{options_shown};
 ghost use Rattle.ld_cmd.specs.Made.{Gives, Makes};
-ghost use Rattle.ld_cmd.specs.Output.{file_bytes, limits_of, loaded_by, main_output, model_output, queried_output};
+ghost use Rattle.ld_cmd.specs.Output.{file_bytes, limits_of, answered_output, loaded_by, main_output, model_output, queried_output};
 ghost use Rattle.ld_cmd.specs.Written.{Output, shown_text};
 ghost use Rattle.ld_cmd.specs.Querying.{answer_queried};
 
-use crate::answer::{Shown, print_answer};
+use crate::answer::{Form, make_answer};
 use crate::inputs::FILE_BYTES;
 use crate::lines::{about_file, about_limit};
 use crate::made::{Made, Stop};
@@ -51,7 +52,7 @@ pub(crate) fn limits_of(options: &Options) -> Limits
 // What a model shows, by its name and its bytes.
 pub(crate) fn show_model<S: Shelf>(
     alloc: Global,
-    what: Shown,
+    what: Form,
     options: &Options,
     own: &Name,
     bytes: &[u8],
@@ -60,8 +61,7 @@ pub(crate) fn show_model<S: Shelf>(
 ) -> Result<Made, Stop>
     requires bounds { bad_limit (limits_of (options_shown options.now)) ≡ None }
     requires size { length bytes.now ≤ file_bytes }
-    ensures told { IfSome (S.files shelf.old) (λ files. Makes (model_output (shown_text what (counting table.now)) (options_shown options.now) files own.now bytes.now) result) }
-    ensures goes_on { result ≢ Err Stop.Usage }
+    ensures told { IfSome (S.files shelf.old) (λ files. Makes (model_output (answered_output what (counting table.now)) (options_shown options.now) files own.now bytes.now) result) }
     ensures cause { result ≡ Err Stop.ReadFault → HasRisen (S.faults shelf.old) (S.faults shelf.new) }
     ensures same { S.files shelf.new ≡ S.files shelf.old }
     ensures never_falls { S.faults shelf.old ≤ S.faults shelf.new }
@@ -98,7 +98,6 @@ pub(crate) fn load_model(
     ensures limits { workspace.new.limits ≡ workspace.old.limits }
     ensures loaded { Gives (λ main. workspace.new.texts.known) (loaded_by (load workspace.old.limits [] (text_blocks own.now bytes.now))) result }
     ensures main { IfOk result (λ main. main_of (text_blocks own.now bytes.now) ≡ Some main) }
-    ensures goes_on { result ≢ Err Stop.Usage }
     ensures no_fault { result ≢ Err Stop.ReadFault }
 {
     match workspace.load(own, bytes) {
@@ -110,7 +109,7 @@ pub(crate) fn load_model(
 
 fn show_main<S: Shelf>(
     alloc: Global,
-    what: Shown,
+    what: Form,
     options: &Options,
     workspace: &mut Workspace,
     main: &FileId,
@@ -118,8 +117,7 @@ fn show_main<S: Shelf>(
     shelf: &mut S,
 ) -> Result<Made, Stop>
     requires limits { workspace.old.limits ≡ limits_of (options_shown options.now) }
-    ensures told { IfSome (S.files shelf.old) (λ files. Makes (main_output (shown_text what (counting table.now)) (options_shown options.now) files (Some main.now) workspace.old.texts.known) result) }
-    ensures goes_on { result ≢ Err Stop.Usage }
+    ensures told { IfSome (S.files shelf.old) (λ files. Makes (main_output (answered_output what (counting table.now)) (options_shown options.now) files (Some main.now) workspace.old.texts.known) result) }
     ensures cause { result ≡ Err Stop.ReadFault → HasRisen (S.faults shelf.old) (S.faults shelf.new) }
     ensures same { S.files shelf.new ≡ S.files shelf.old }
     ensures never_falls { S.faults shelf.old ≤ S.faults shelf.new }
@@ -132,21 +130,18 @@ fn show_main<S: Shelf>(
 
 fn show_answer(
     alloc: Global,
-    what: Shown,
+    what: Form,
     texts: &Texts,
     table: &Table,
     answer: Result<Answer, AnswerError>,
 ) -> Result<Made, Stop>
-    requires { IfOk answer (λ answer. length answer.entries < 2 ^ 32) }
-    ensures shown { (wanted : Output) → IfSome (answer_queried answer) (λ given. queried_output (shown_text what (counting table.now)) texts.now.known given ≡ wanted) → Makes wanted result }
-    ensures goes_on { result ≢ Err Stop.Usage }
+    requires size { IfOk answer (λ answer. length answer.entries < 2 ^ 32) }
+    requires steps { IfOk answer (λ answer. AreSteps (length answer.entries) answer.steps) }
+    ensures shown { (wanted : Output) → IfSome (answer_queried answer) (λ given. queried_output (answered_output what (counting table.now)) texts.now.known given ≡ wanted) → Makes wanted result }
     ensures fault { result ≡ Err Stop.ReadFault → answer ≡ Err AnswerError.ReadFault }
 {
     match answer {
-        Ok(answer) => Ok(Made {
-            text: print_answer(alloc, what, texts, table, &answer)?,
-            status: Status::Done,
-        }),
+        Ok(answer) => make_answer(alloc, what, texts, table, &answer),
         Err(AnswerError::Fault(fault)) => Ok(Made {
             text: fault_line(alloc, texts, &fault)?,
             status: Status::Faulted,

@@ -103,6 +103,5 @@ fn answer_command<S: Shelf, K: Sink>(
         Err(Stop::Decided(made)) => Err(put_last(out, made.text.as_slice(), made.status)),
         Err(Stop::ReadFault) => Err(Status::ReadFault),
         Err(Stop::Memory) => Err(Status::Memory),
-        Err(Stop::Usage) => unreachable!(),
     }
 }

@@ -34,7 +34,6 @@ pub(crate) fn reply<S: Shelf>(
     ensures limits { workspace.new.limits ≡ workspace.old.limits }
     ensures told { IfSome (S.files shelf.old)
         (λ files. Replies (step_of (setting_shown setting.now) files workspace.old.texts.known command.now) workspace.new.texts.known result) }
-    ensures goes_on { result ≢ Err Stop.Usage }
     ensures cause { result ≡ Err Stop.ReadFault → HasRisen (S.faults shelf.old) (S.faults shelf.new) }
     ensures same { S.files shelf.new ≡ S.files shelf.old }
     ensures never_falls { S.faults shelf.old ≤ S.faults shelf.new }
@@ -60,7 +59,6 @@ fn answer_edit<S: Shelf>(
     ensures limits { workspace.new.limits ≡ workspace.old.limits }
     ensures told { IfSome (S.files shelf.old)
         (λ files. Replies (edit_step workspace.old.limits files workspace.old.texts.known edit.now) workspace.new.texts.known result) }
-    ensures goes_on { result ≢ Err Stop.Usage }
     ensures cause { result ≡ Err Stop.ReadFault → HasRisen (S.faults shelf.old) (S.faults shelf.new) }
     ensures same { S.files shelf.new ≡ S.files shelf.old }
     ensures never_falls { S.faults shelf.old ≤ S.faults shelf.new }
@@ -71,7 +69,6 @@ fn answer_edit<S: Shelf>(
 
 fn edit_reply(alloc: Global, edited: Result<(), EditError>) -> Result<Bytes, Stop>
     ensures reply { (wanted : Step) (known : Known) → IfSome (edit_given known edited) (λ given. given ≡ wanted) → Replies wanted known result }
-    ensures goes_on { result ≢ Err Stop.Usage }
     ensures fault { result ≡ Err Stop.ReadFault → edited ≡ Err EditError.ReadFault }
 {
     match edited {
@@ -118,7 +115,6 @@ fn answer_query<S: Shelf>(
     ensures limits { workspace.new.limits ≡ workspace.old.limits }
     ensures told { IfSome (S.files shelf.old)
         (λ files. Replies (query_step workspace.old.limits files workspace.old.texts.known what (counting table.now) root.now colour) workspace.new.texts.known result) }
-    ensures goes_on { result ≢ Err Stop.Usage }
     ensures cause { result ≡ Err Stop.ReadFault → HasRisen (S.faults shelf.old) (S.faults shelf.new) }
     ensures same { S.files shelf.new ≡ S.files shelf.old }
     ensures never_falls { S.faults shelf.old ≤ S.faults shelf.new }
@@ -136,7 +132,6 @@ fn answer_reply(
 ) -> Result<Bytes, Stop>
     requires { IfOk answer (λ answer. length answer.entries < 2 ^ 32) }
     ensures reply { (wanted : Step) → IfSome (answer_queried answer) (λ given. query_reply what (counting table.now) texts.now.known given ≡ wanted) → Replies wanted texts.now.known result }
-    ensures goes_on { result ≢ Err Stop.Usage }
     ensures fault { result ≡ Err Stop.ReadFault → answer ≡ Err AnswerError.ReadFault }
 {
     match answer {

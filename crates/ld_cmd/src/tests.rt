@@ -77,7 +77,7 @@ fn answers_over_files_in_memory(rt: HostRuntime) -> Result<(), Fail> {
     Ok(())
 }
 
-// Words that are no command, or one that isn't answered yet, a list a line; the first list has none.
+// Words that are no command, a list a line; the first list has none.
 const FAULTY: &str = "
 faces
 faces m.ldr --workers 0
@@ -89,8 +89,7 @@ faces m.ldr --main=4
 faces a/b/My Car.LDR
 gen 0
 help
-inline m.ldr
-check m.ldr
+inline
 replay m.ldr";
 
 const USAGE: &str =

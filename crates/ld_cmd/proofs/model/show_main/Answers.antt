@@ -5,15 +5,14 @@ use Rattle.ld_texts.specs.Learning.{Texts}
 use Rattle.ld_colour.specs.Table.{counting}
 use Rattle.ld_io.specs.Shelf.{Files}
 use Rattle.ld_words.specs.Shown.{options_shown}
-use Rattle.ld_cmd.specs.Output.{limits_of, main_output}
-use Rattle.ld_cmd.specs.Written.{shown_text}
+use Rattle.ld_cmd.specs.Output.{answered_output, limits_of, main_output}
 use Rattle.ld_cmd.specs.Querying.{Queries, answer_queried}
 use Rattle.ld_cmd.proofs.Queries.{main-told}
 use Rattle.ld_cmd.proofs.model.show_main.Goals as goal
 
 pub returns-clause-told : goal.returns-clause-told
 returns-clause-told g c =
-    let show = shown_text c.args.what (counting c.args.table.now) in
+    let show = answered_output c.args.what (counting c.args.table.now) in
     let options = options_shown c.args.options.now in
     IfSome_then (g.S.Shelf.files c.args.shelf.now) c.ask-answer.ensures.told (λ (files : Files) told.
     let old = c.args.workspace.now.texts.known in
