@@ -1,0 +1,6 @@
+pub mod Behind
+pub mod Components
+pub mod Drawn
+pub mod Listed
+pub mod Passing
+pub mod Whole
