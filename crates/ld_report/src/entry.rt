@@ -109,7 +109,7 @@ fn append_entry(
             colour,
             source,
         } => {
-            print_head(b"part", table, colour, into)?;
+            print_head(b"part ", table, colour, into)?;
             print_part(texts, file, into)?;
             end_line(texts, source, into)?;
             Ok(())
@@ -151,13 +151,13 @@ fn print_points(points: &[Point], into: &mut Vec<u8>) -> Result<(), AllocError>
 }
 
 fn kind_word(kind: Kind) -> &'static [u8]
-    ensures { result.now ≡ kind_text kind }
+    ensures { result.now ≡ kind_text kind ++ codes " " }
 {
     match kind {
-        Kind::Line2 => b"line",
-        Kind::Tri => b"tri",
-        Kind::Quad => b"quad",
-        Kind::Opt => b"opt",
+        Kind::Line2 => b"line ",
+        Kind::Tri => b"tri ",
+        Kind::Quad => b"quad ",
+        Kind::Opt => b"opt ",
     }
 }
 
