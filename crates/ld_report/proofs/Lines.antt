@@ -56,3 +56,14 @@ words-of-turns (turn ∷ turns) = ap (λ more. (codes " " ++ turn_text turn) ++ 
 pub words_of_view : (view : List Turn) → (length view == 0) ≡ false → flat_map (λ turn. codes " " ++ turn_text turn) view ≡ flat_map (λ word. codes " " ++ word) (view_words view)
 words_of_view [] some = absurd (true≢false some)
 words_of_view (turn ∷ turns) some = words-of-turns (turn ∷ turns)
+
+-- the line of a fault
+fault-line : (old fault what source : List ℕ) (names : List (List ℕ))
+    → ((((old ++ (fault ++ codes " ")) ++ (what ++ codes " ")) ++ source) ++ flat_map (λ word. codes " " ++ word) names) ++ codes "\n"
+    ≡ old ++ line_text (fault ∷ what ∷ source ∷ names)
+fault-line old fault what source names = let tail : spaced (source ∷ names) ≡ source ++ flat_map (λ word. codes " " ++ word) names = spaced_words source names in rw tail (simp append_assoc)
+
+pub fault_line : (old what source : List ℕ) (names : List (List ℕ))
+    → ((((old ++ codes "fault ") ++ (what ++ codes " ")) ++ source) ++ flat_map (λ word. codes " " ++ word) names) ++ codes "\n"
+    ≡ old ++ line_text (codes "fault" ∷ what ∷ source ∷ names)
+fault_line old what source names = fault-line old (codes "fault") what source names

@@ -3,3 +3,5 @@ pub mod Entries
 pub mod Parts
 pub mod Counting
 pub mod Steps
+pub mod Extending
+pub mod Findings

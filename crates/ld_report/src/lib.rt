@@ -4,13 +4,16 @@
 
 mod entry;
 mod fault;
+mod findings;
 mod parts;
 mod pieces;
 mod steps;
 #[cfg(test)]
 mod tests;
+mod undoing;
 
 pub use entry::{print_entries, print_entry};
 pub use fault::print_fault;
+pub use findings::print_findings;
 pub use parts::{PartCount, parts_list, print_parts};
 pub use steps::print_steps;

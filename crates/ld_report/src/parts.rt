@@ -1,9 +1,11 @@
-ghost use Rattle.std.specs.Prelude.{◌≡◌, ◌++◌, ◌+◌, ◌<◌, ◌^◌, IfOk, OnOk, length, map};
+ghost use Rattle.std.specs.Prelude.{◌≡◌, ◌++◌, ◌+◌, ◌<◌, ◌^◌, IfOk, OnErr, OnOk, length, map};
 ghost use Rattle.ld_report.specs.Counting.{added, added_if, total};
+ghost use Rattle.ld_report.specs.Extending.{Extends};
 ghost use Rattle.ld_report.specs.Parts.{Use, same_use, part_of, part_words, parts_of, parts_text, use_of};
 ghost use Rattle.ld_report.specs.Pieces.{line_text};
 
 use crate::pieces::{print_colour, print_file, print_number};
+use crate::undoing::or_undone;
 use indexmap::IndexMap;
 use ld_colour::Colour;
 use ld_entry::Entry;
@@ -86,10 +88,20 @@ fn listed(alloc: Global, counts: &Counts) -> Result<Vec<PartCount>, AllocError>
 ///
 /// # Errors
 ///
-/// Want of memory. What was appended up to then stands.
-#[tactic(auto, unfolding(crate::specs::Parts::parts_text))]
+/// Want of memory. The text is then as before.
 pub fn print_parts(texts: &Texts, parts: &[PartCount], into: &mut Vec<u8>) -> Result<(), AllocError>
     ensures ok { OnOk result (into.new.items ≡ into.old.items ++ parts_text texts.now.known parts.now) }
+    ensures err { OnErr result (into.new.items ≡ into.old.items) }
+{
+    let length = into.len();
+    let outcome = append_parts(texts, parts, into);
+    or_undone(outcome, length, into)
+}
+
+#[tactic(auto, using(crate::proofs::Extending::extending), unfolding(crate::specs::Parts::parts_text))]
+fn append_parts(texts: &Texts, parts: &[PartCount], into: &mut Vec<u8>) -> Result<(), AllocError>
+    ensures ok { OnOk result (into.new.items ≡ into.old.items ++ parts_text texts.now.known parts.now) }
+    ensures keeps { Extends into.old.items into.new.items }
 {
     for part in parts {
         print_part(texts, part, into)?;
@@ -97,8 +109,10 @@ pub fn print_parts(texts: &Texts, parts: &[PartCount], into: &mut Vec<u8>) -> Re
     Ok(())
 }
 
+#[tactic(auto, using(crate::proofs::Extending::extending))]
 fn print_part(texts: &Texts, part: &PartCount, into: &mut Vec<u8>) -> Result<(), AllocError>
-    ensures { OnOk result (into.new.items ≡ into.old.items ++ line_text (part_words texts.now.known part.now)) }
+    ensures ok { OnOk result (into.new.items ≡ into.old.items ++ line_text (part_words texts.now.known part.now)) }
+    ensures keeps { Extends into.old.items into.new.items }
 {
     print_number(u64::from(part.count), into)?;
     into.push(b' ')?;

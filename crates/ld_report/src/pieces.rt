@@ -3,6 +3,7 @@ ghost use Rattle.std.specs.Fmt.{digit_glyph};
 ghost use Rattle.ld_colour.specs.Table.{counting, rgb_in};
 ghost use Rattle.ld_line.specs.Printing.{six_hex};
 ghost use Rattle.ld_texts.specs.Known.{file_at};
+ghost use Rattle.ld_report.specs.Extending.{Extends};
 ghost use Rattle.ld_report.specs.Pieces.{colour_text, folder_text, numbered_text, point_text, rgb_text, source_text};
 
 use itoa::Buffer;
@@ -13,9 +14,10 @@ use ld_num::{Point, print_dec};
 use ld_texts::Texts;
 use std::alloc::AllocError;
 
-#[tactic(auto, unfolding(ld_line::specs::Printing::direct_text))]
+#[tactic(auto, using(crate::proofs::Extending::extending), unfolding(ld_line::specs::Printing::direct_text))]
 pub(crate) fn print_colour(colour: Colour, into: &mut Vec<u8>) -> Result<(), AllocError>
-    ensures { OnOk result (into.new.items ≡ into.old.items ++ colour_text colour) }
+    ensures ok { OnOk result (into.new.items ≡ into.old.items ++ colour_text colour) }
+    ensures keeps { Extends into.old.items into.new.items }
 {
     match colour {
         Colour::Main => into.extend_from_slice(b"16"),
@@ -33,8 +35,10 @@ pub(crate) fn print_colour(colour: Colour, into: &mut Vec<u8>) -> Result<(), All
 }
 
 // A space, and red, green and blue.
+#[tactic(auto, using(crate::proofs::Extending::extending))]
 fn print_rgb(rgb: Option<u32>, into: &mut Vec<u8>) -> Result<(), AllocError>
-    ensures { OnOk result (into.new.items ≡ into.old.items ++ codes " " ++ rgb_text rgb) }
+    ensures ok { OnOk result (into.new.items ≡ into.old.items ++ codes " " ++ rgb_text rgb) }
+    ensures keeps { Extends into.old.items into.new.items }
 {
     match rgb {
         Some(value) => {
@@ -45,17 +49,18 @@ fn print_rgb(rgb: Option<u32>, into: &mut Vec<u8>) -> Result<(), AllocError>
     }
 }
 
-// The word that begins an entry's line, its colour, and the colour's red, green and blue.
+// The word that begins an entry's line, with the space behind it, its colour, and the colour's red, green and blue.
+#[tactic(auto, using(crate::proofs::Extending::extending))]
 pub(crate) fn print_head(
     word: &[u8],
     table: &Table,
     colour: Colour,
     into: &mut Vec<u8>,
 ) -> Result<(), AllocError>
-    ensures { OnOk result (into.new.items ≡ into.old.items ++ (word.now ++ codes " " ++ colour_text colour ++ codes " " ++ rgb_text (rgb_in (counting table.now) colour))) }
+    ensures ok { OnOk result (into.new.items ≡ into.old.items ++ (word.now ++ colour_text colour ++ codes " " ++ rgb_text (rgb_in (counting table.now) colour))) }
+    ensures keeps { Extends into.old.items into.new.items }
 {
     into.extend_from_slice(word)?;
-    into.push(b' ')?;
     print_colour(colour, into)?;
     print_rgb(table.rgb(colour), into)
 }
@@ -85,14 +90,18 @@ fn hex_digit(digit: u32) -> u8
     }
 }
 
+#[tactic(auto, using(crate::proofs::Extending::extending))]
 pub(crate) fn print_number(number: u64, into: &mut Vec<u8>) -> Result<(), AllocError>
-    ensures { OnOk result (into.new.items ≡ into.old.items ++ decimal number) }
+    ensures ok { OnOk result (into.new.items ≡ into.old.items ++ decimal number) }
+    ensures keeps { Extends into.old.items into.new.items }
 {
     into.extend_from_slice(Buffer::new().format(number).as_bytes())
 }
 
+#[tactic(auto, using(crate::proofs::Extending::extending))]
 pub(crate) fn print_point(point: &Point, into: &mut Vec<u8>) -> Result<(), AllocError>
-    ensures { OnOk result (into.new.items ≡ into.old.items ++ point_text point.now) }
+    ensures ok { OnOk result (into.new.items ≡ into.old.items ++ point_text point.now) }
+    ensures keeps { Extends into.old.items into.new.items }
 {
     print_dec(point.x, into)?;
     into.push(b',')?;
@@ -101,8 +110,10 @@ pub(crate) fn print_point(point: &Point, into: &mut Vec<u8>) -> Result<(), Alloc
     print_dec(point.z, into)
 }
 
+#[tactic(auto, using(crate::proofs::Extending::extending))]
 pub(crate) fn print_file(texts: &Texts, id: TextId, into: &mut Vec<u8>) -> Result<(), AllocError>
-    ensures { OnOk result (into.new.items ≡ into.old.items ++ numbered_text (file_at texts.now.known id.0)) }
+    ensures ok { OnOk result (into.new.items ≡ into.old.items ++ numbered_text (file_at texts.now.known id.0)) }
+    ensures keeps { Extends into.old.items into.new.items }
 {
     let Some(file) = texts.file(id) else {
         return Ok(());
@@ -121,12 +132,14 @@ fn folder_word(folder: Folder) -> &'static [u8]
     }
 }
 
+#[tactic(auto, using(crate::proofs::Extending::extending))]
 pub(crate) fn print_source(
     texts: &Texts,
     source: Source,
     into: &mut Vec<u8>,
 ) -> Result<(), AllocError>
-    ensures { OnOk result (into.new.items ≡ into.old.items ++ source_text texts.now.known source) }
+    ensures ok { OnOk result (into.new.items ≡ into.old.items ++ source_text texts.now.known source) }
+    ensures keeps { Extends into.old.items into.new.items }
 {
     print_file(texts, source.text, into)?;
     into.push(b':')?;

@@ -1,11 +1,13 @@
-ghost use Rattle.std.specs.Prelude.{◌≡◌, ◌++◌, ◌-◌, codes, OnOk};
+ghost use Rattle.std.specs.Prelude.{◌≡◌, ◌++◌, ◌-◌, codes, OnErr, OnOk};
 ghost use Rattle.std.specs.List.{flat_map};
 ghost use Rattle.ld_colour.specs.Table.{counting};
+ghost use Rattle.ld_report.specs.Extending.{Extends};
 ghost use Rattle.ld_report.specs.Pieces.{line_text};
 ghost use Rattle.ld_report.specs.Steps.{entries_in, step_words, steps_text, turn_text, turn_word, view_words};
 
-use crate::entry::print_entries;
+use crate::entry::append_entries;
 use crate::pieces::{print_number, print_point};
+use crate::undoing::or_undone;
 use ld_colour::Table;
 use ld_entry::Entry;
 use ld_num::Point;
@@ -20,8 +22,7 @@ use std::alloc::AllocError;
 ///
 /// # Errors
 ///
-/// Want of memory. What was appended up to then stands.
-#[tactic(auto, unfolding(crate::specs::Steps::steps_text))]
+/// Want of memory. The text is then as before.
 pub fn print_steps(
     texts: &Texts,
     table: &Table,
@@ -30,16 +31,35 @@ pub fn print_steps(
     into: &mut Vec<u8>,
 ) -> Result<(), AllocError>
     ensures ok { OnOk result (into.new.items ≡ into.old.items ++ steps_text texts.now.known (counting table.now) answer_entries.now steps.now) }
+    ensures err { OnErr result (into.new.items ≡ into.old.items) }
+{
+    let length = into.len();
+    let outcome = append_steps(texts, table, answer_entries, steps, into);
+    or_undone(outcome, length, into)
+}
+
+#[tactic(auto, using(crate::proofs::Extending::extending), unfolding(crate::specs::Steps::steps_text))]
+fn append_steps(
+    texts: &Texts,
+    table: &Table,
+    answer_entries: &[Entry],
+    steps: &[StepPart],
+    into: &mut Vec<u8>,
+) -> Result<(), AllocError>
+    ensures ok { OnOk result (into.new.items ≡ into.old.items ++ steps_text texts.now.known (counting table.now) answer_entries.now steps.now) }
+    ensures keeps { Extends into.old.items into.new.items }
 {
     for (before, step) in steps.iter().enumerate() {
         print_step(before + 1, step, into)?;
-        print_entries(texts, table, entries_in(answer_entries, step), into)?;
+        append_entries(texts, table, entries_in(answer_entries, step), into)?;
     }
     Ok(())
 }
 
+#[tactic(auto, using(crate::proofs::Extending::extending))]
 fn print_step(number: usize, step: &StepPart, into: &mut Vec<u8>) -> Result<(), AllocError>
-    ensures { OnOk result (into.new.items ≡ into.old.items ++ line_text (step_words number step.now)) }
+    ensures ok { OnOk result (into.new.items ≡ into.old.items ++ line_text (step_words number step.now)) }
+    ensures keeps { Extends into.old.items into.new.items }
 {
     into.extend_from_slice(b"step ")?;
     print_number(number as u64, into)?;
@@ -63,8 +83,10 @@ fn entries_in<'a>(entries: &'a [Entry], step: &StepPart) -> &'a [Entry]
     shown
 }
 
+#[tactic(auto, using(crate::proofs::Extending::extending))]
 fn print_view(view: &[Turn], into: &mut Vec<u8>) -> Result<(), AllocError>
-    ensures { OnOk result (into.new.items ≡ into.old.items ++ flat_map (λ word. codes " " ++ word) (view_words view.now)) }
+    ensures ok { OnOk result (into.new.items ≡ into.old.items ++ flat_map (λ word. codes " " ++ word) (view_words view.now)) }
+    ensures keeps { Extends into.old.items into.new.items }
 {
     if view.is_empty() {
         return into.extend_from_slice(b" -");
@@ -73,8 +95,10 @@ fn print_view(view: &[Turn], into: &mut Vec<u8>) -> Result<(), AllocError>
     Ok(())
 }
 
+#[tactic(auto, using(crate::proofs::Extending::extending))]
 fn print_turns(turns: &[Turn], into: &mut Vec<u8>) -> Result<(), AllocError>
-    ensures { OnOk result (into.new.items ≡ into.old.items ++ flat_map (λ turn. codes " " ++ turn_text turn) turns.now) }
+    ensures ok { OnOk result (into.new.items ≡ into.old.items ++ flat_map (λ turn. codes " " ++ turn_text turn) turns.now) }
+    ensures keeps { Extends into.old.items into.new.items }
 {
     for turn in turns {
         into.push(b' ')?;
@@ -83,8 +107,10 @@ fn print_turns(turns: &[Turn], into: &mut Vec<u8>) -> Result<(), AllocError>
     Ok(())
 }
 
+#[tactic(auto, using(crate::proofs::Extending::extending))]
 fn print_turn(turn: &Turn, into: &mut Vec<u8>) -> Result<(), AllocError>
-    ensures { OnOk result (into.new.items ≡ into.old.items ++ turn_text turn.now) }
+    ensures ok { OnOk result (into.new.items ≡ into.old.items ++ turn_text turn.now) }
+    ensures keeps { Extends into.old.items into.new.items }
 {
     let angles = turn.angles;
     into.extend_from_slice(turn_word(turn.absolute))?;

@@ -1,6 +1,7 @@
-//! Printed entries, faults, parts lists and steps.
+//! Printed entries, faults, parts lists, steps and findings.
 use crate::entry::NO_POINTS;
-use crate::{parts_list, print_entry, print_fault, print_parts, print_steps};
+use crate::{parts_list, print_entry, print_fault, print_findings, print_parts, print_steps};
+use ld_check::Finding;
 use ld_colour::{Colour, Table};
 use ld_entry::{Entry, Fault, Source, What};
 use ld_line::{Kind, Line, RotWord, Winding, lines_of, read_line};
@@ -337,5 +338,22 @@ fn steps_are_printed(rt: HostRuntime) -> Result<(), Fail> {
         &mut printed,
     )?;
     assert_eq!(rt; printed.as_slice(), wanted.as_slice());
+    Ok(())
+}
+
+#[test]
+fn findings_are_printed(rt: HostRuntime) -> Result<(), Fail> {
+    let alloc = rt.alloc();
+    let findings = [
+        Finding { line: 2, rule: 103 },
+        Finding {
+            line: 4_294_967_290,
+            rule: 309,
+        },
+    ];
+    let mut printed = Vec::from_slice(alloc, b"x".as_slice())?;
+    print_findings(&findings, &mut printed)?;
+    print_findings(&[], &mut printed)?;
+    assert_eq!(rt; printed.as_slice(), b"x2 103\n4294967290 309\n".as_slice());
     Ok(())
 }

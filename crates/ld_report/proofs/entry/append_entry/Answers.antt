@@ -6,11 +6,11 @@ use Rattle.ld_texts.specs.Known.{file_at}
 use Rattle.ld_report.specs.Entries.{entry_text}
 use Rattle.ld_report.specs.Pieces.{certified_text, clip_text, colour_text, kind_text, numbered_text, point_text, rgb_text, source_text, winding_text}
 use Rattle.ld_report.proofs.Lines.{drawn_line, part_line}
-use Rattle.ld_report.proofs.entry.print_entry.Goals as goal
+use Rattle.ld_report.proofs.entry.append_entry.Goals as goal
 
-pub returns-in_ok-end_line-in-Drawn : goal.returns-in_ok-end_line-in-Drawn
+pub returns-in_ok-end_line-in-Drawn-clause-ok : goal.returns-in_ok-end_line-in-Drawn-clause-ok
 unfolding entry_text
-returns-in_ok-end_line-in-Drawn c =
+returns-in_ok-end_line-in-Drawn-clause-ok c =
     let d = c.in-Drawn in
     let old = c.args.into.now.items in
     let known = c.args.texts.now.known in
@@ -18,19 +18,19 @@ returns-in_ok-end_line-in-Drawn c =
     let rgb = rgb_text (rgb_in (counting c.args.table.now) d.colour) in
     let culling = codes " " ++ certified_text d.certified ++ codes " " ++ clip_text d.clip ++ codes " " ++ winding_text d.winding ++ codes " " in
     let points = take (points_in d.kind) d.points in
-    let head : c.print_head.new.into.items ≡ old ++ (kind_text d.kind ++ codes " " ++ colour ++ codes " " ++ rgb) = c.in_ok-print_head-in-Drawn.ensures ∙ ap (λ word. old ++ (word ++ codes " " ++ colour ++ codes " " ++ rgb)) c.kind_word.ensures in
+    let head : c.print_head.new.into.items ≡ old ++ (kind_text d.kind ++ codes " " ++ colour ++ codes " " ++ rgb) = c.in_ok-print_head-in-Drawn.ensures.ok ∙ ap (λ word. old ++ (word ++ colour ++ codes " " ++ rgb)) c.kind_word.ensures in
     let culled : c.extend_from_slice.new.self.items ≡ c.print_head.new.into.items ++ culling = c.in_ok-extend_from_slice-in-Drawn.ensures.items ∙ ap (λ words. c.print_head.new.into.items ++ words) c.culling_words.ensures in
-    let pointed : c.print_points.new.into.items ≡ c.extend_from_slice.new.self.items ++ flat_map (λ point. point_text point ++ codes " ") points = c.in_ok-print_points-in-Drawn.ensures ∙ ap (λ count. c.extend_from_slice.new.self.items ++ flat_map (λ point. point_text point ++ codes " ") (take count d.points)) c.points.ensures in
-    let ended : c.end_line.new.into.items ≡ c.print_points.new.into.items ++ (source_text known d.source ++ codes "\n") = c.in_ok-end_line-in-Drawn.ensures in
+    let pointed : c.print_points.new.into.items ≡ c.extend_from_slice.new.self.items ++ flat_map (λ point. point_text point ++ codes " ") points = c.in_ok-print_points-in-Drawn.ensures.ok ∙ ap (λ count. c.extend_from_slice.new.self.items ++ flat_map (λ point. point_text point ++ codes " ") (take count d.points)) c.points.ensures in
+    let ended : c.end_line.new.into.items ≡ c.print_points.new.into.items ++ (source_text known d.source ++ codes "\n") = c.in_ok-end_line-in-Drawn.ensures.ok in
     let line = drawn_line old (kind_text d.kind) colour rgb (certified_text d.certified) (clip_text d.clip) (winding_text d.winding) points (source_text known d.source) in
-    rw d.is (record { ok = ended ∙ ap (λ text. text ++ (source_text known d.source ++ codes "\n")) (pointed ∙ ap (λ text. text ++ flat_map (λ point. point_text point ++ codes " ") points) (culled ∙ ap (λ text. text ++ culling) head)) ∙ line })
+    rw d.is (ended ∙ ap (λ text. text ++ (source_text known d.source ++ codes "\n")) (pointed ∙ ap (λ text. text ++ flat_map (λ point. point_text point ++ codes " ") points) (culled ∙ ap (λ text. text ++ culling) head)) ∙ line)
 
-pub returns-in_ok-end_line-in-Part : goal.returns-in_ok-end_line-in-Part
+pub returns-in_ok-end_line-in-Part-clause-ok : goal.returns-in_ok-end_line-in-Part-clause-ok
 unfolding entry_text
-returns-in_ok-end_line-in-Part c =
+returns-in_ok-end_line-in-Part-clause-ok c =
     let d = c.in-Part in
     let old = c.args.into.now.items in
     let source = source_text c.args.texts.now.known d.source in
     let file = numbered_text (file_at c.args.texts.now.known d.file.0) in
     let line = part_line old (colour_text d.colour) (rgb_text (rgb_in (counting c.args.table.now) d.colour)) file source in
-    rw d.is (record { ok = c.in_ok-end_line-in-Part.ensures ∙ ap (λ text. text ++ (source ++ codes "\n")) (c.in_ok-print_part-in-Part.ensures ∙ ap (λ text. text ++ (codes " " ++ file ++ codes " at ")) c.in_ok-print_head-in-Part.ensures) ∙ line })
+    rw d.is (c.in_ok-end_line-in-Part.ensures.ok ∙ ap (λ text. text ++ (source ++ codes "\n")) (c.in_ok-print_part-in-Part.ensures.ok ∙ ap (λ text. text ++ (codes " " ++ file ++ codes " at ")) c.in_ok-print_head-in-Part.ensures.ok) ∙ line)
