@@ -1,12 +1,18 @@
--- The output of a script, by what is read for it.
-use Rattle.std.proofs.Common.{◌≡◌, ◌∙◌, List, ℕ, Bool, true, Option, Some, None, Result, Ok, Err, IfSome, ap, sym, refl, subst}
+-- The output of a model and of a script, by what is read and loaded for it.
+use Rattle.std.proofs.Common.{◌≡◌, ◌∙◌, List, [], ℕ, Bool, true, Option, Some, None, Result, Ok, Err, IfSome, ap, sym, refl, subst}
 use Rattle.ld_io.specs.Shelf.{Files}
 use Rattle.ld_io.specs.declared.shelf.Place.TheVariants.{Work}
 use Rattle.ld_colour.specs.Table.{Counting}
 use Rattle.ld_script.specs.Script.{commands_of}
 use Rattle.ld_words.specs.Words.{Options}
-use Rattle.ld_cmd.specs.Output.{input, own_name, replay_output, replayed, table_of}
+use Rattle.ld_cmd.specs.Output.{input, limits_of, loaded_by, main_file, main_output, model_output, own_name, replay_output, replayed, table_of}
 use Rattle.ld_cmd.specs.Replying.{Opens}
+use Rattle.ld_mpd.specs.Blocks.{text_blocks}
+use Rattle.ld_names.specs.Standing.{Known}
+use Rattle.ld_names.specs.declared.file.FileId.{FileId}
+use Rattle.ld_engine.specs.Loading.{load}
+use Rattle.ld_engine.specs.declared.asking.Answer.{Answer}
+use Rattle.ld_cmd.specs.Written.{Output}
 use Rattle.ld_cmd.specs.declared.made.Stop.{Stop}
 use Rattle.ld_cmd.specs.declared.session.Session.{Session}
 
@@ -14,3 +20,7 @@ pub replay-told : (files : Option Files) (file script own bytes lines : List ℕ
 replay-told None file script own bytes lines options table result read script_read coloured named opens = tt
 replay-told (Some files) file script own bytes lines options table result read script_read coloured named opens =
     rw read (rw script_read (rw coloured (rw (sym named) (opens files))))
+
+pub model-told : (show : Known → Answer → Output) (options : Options) (files : Files) (own bytes : List ℕ) (known : Known) (main : FileId) → loaded_by (load (limits_of options) [] (text_blocks own bytes)) ≡ Ok known → main_file own (text_blocks own bytes) ≡ main → main_output show options files main known ≡ model_output show options files own bytes
+unfolding model_output
+model-told show options files own bytes known main loaded is = rw loaded (rw is refl)

@@ -4,7 +4,8 @@ use Rattle.std.specs.List.{list_any}
 use Rattle.ld_io.specs.Shelf.{Files}
 use Rattle.ld_io.specs.declared.shelf.Place.TheVariants.{Work}
 use Rattle.ld_names.specs.Normal.{normal_of}
-use Rattle.ld_names.specs.Standing.{Known}
+use Rattle.ld_names.specs.Standing.{Known, file_in}
+use Rattle.ld_names.specs.declared.file.Folder.TheVariants.{Model}
 use Rattle.ld_names.specs.declared.file.FileId.{FileId}
 use Rattle.ld_names.specs.declared.name.NameError.{NameError}
 use Rattle.ld_mpd.specs.Blocks.{text_blocks, text_of}
@@ -16,9 +17,10 @@ use Rattle.ld_texts.specs.declared.change.Over.{Over}
 use Rattle.ld_texts.specs.declared.change.Over.TheVariants as over
 use Rattle.ld_colour.specs.Colour.{colour_of}
 use Rattle.ld_colour.specs.Table.{Counting, table_in}
-use Rattle.ld_engine.specs.Learning.{Learnt, Stop, TooBig, Full, learning}
-use Rattle.ld_engine.specs.Loading.{load, main_of}
+use Rattle.ld_engine.specs.Learning.{Stop, learning}
+use Rattle.ld_engine.specs.Loading.{Blocks, load}
 use Rattle.ld_engine.specs.declared.asking.Answer.{Answer}
+use Rattle.ld_entry.specs.declared.entry.Fault.{Fault}
 use Rattle.ld_engine.specs.declared.limits.Limits.{Limits}
 use Rattle.ld_report.specs.Entries.{entries_text, fault_text}
 use Rattle.ld_report.specs.Parts.{parts_of, parts_text}
@@ -38,7 +40,7 @@ use Rattle.ld_script.specs.Script.{commands_of}
 use Rattle.ld_script.specs.declared.command.Command.{Command}
 use Rattle.ld_cmd.specs.Playing.{played}
 use Rattle.ld_cmd.specs.Written.{Output, and_then, one_piece, over_text, shown_text, stop_text}
-use Rattle.ld_cmd.specs.Querying.{Queried, Stops, NoRoot, Faulted, Answered, queried}
+use Rattle.ld_cmd.specs.Querying.{answer_at}
 
 -- ---- 1. Words that are no command.
 
@@ -105,6 +107,11 @@ abbrev pub loaded_by : Result Known Over → Result Known Output
 loaded_by (Ok known) = Ok known
 loaded_by (Err passed) = Err (one_piece (over_text passed) status.Limit)
 
+-- the main model is the first text, and there always is one
+abbrev pub main_file : List ℕ → Blocks → FileId
+main_file own [] = file_in Model own
+main_file own (text ∷ texts) = file_in Model text.0
+
 -- ---- 5. Queries.
 
 -- the inlined text, or the code of an edge colour without a value
@@ -117,23 +124,25 @@ abbrev pub answered_output : Form → Counting → Known → Answer → Output
 answered_output (Listed what) table known answer = one_piece (shown_text what table known answer) status.Done
 answered_output Inlined table known answer = inlined_output (inlined_text answer.entries answer.steps table)
 
--- the output of a query; the main model is there, so that its root never lacks
-abbrev pub queried_output : (Known → Answer → Output) → Known → Queried → Output
-queried_output show known (Stops stop) = one_piece (stop_text stop) status.Limit
-queried_output show known NoRoot = one_piece [] status.Done
-queried_output show known (Faulted fault) = one_piece (fault_text known fault) status.Faulted
-queried_output show known (Answered answer) = show known answer
+-- an answer is shown, or the first fault
+abbrev pub shown_or_fault : (Known → Answer → Output) → Known → Result Answer Fault → Output
+shown_or_fault show known (Ok answer) = show known answer
+shown_or_fault show known (Err fault) = one_piece (fault_text known fault) status.Faulted
+
+-- once learning has ended: the main model is the first of the known texts
+abbrev pub learnt_output : (Known → Answer → Output) → Options → Files → Known → Option Stop → Output
+learnt_output show options files known (Some stop) = one_piece (stop_text stop) status.Limit
+learnt_output show options files known None = shown_or_fault show known (answer_at (limits_of options) files (colour_of options.main) known 0)
 
 -- the output of the query of a model's main model, once its texts are known
-abbrev pub main_output : (Known → Answer → Output) → Options → Files → Option FileId → Known → Output
-main_output show options files None known = one_piece [] status.Done
-main_output show options files (Some main) known =
-    let learnt = learning (limits_of options) files main known in queried_output show learnt.known (queried (limits_of options) files main (colour_of options.main) learnt)
+abbrev pub main_output : (Known → Answer → Output) → Options → Files → FileId → Known → Output
+main_output show options files main known =
+    let learnt = learning (limits_of options) files main known in learnt_output show options files learnt.known learnt.stop
 
 -- the output of a model by its name and its bytes
-abbrev pub model_output : (Known → Answer → Output) → Options → Files → List ℕ → List ℕ → Output
+unfoldable pub model_output : (Known → Answer → Output) → Options → Files → List ℕ → List ℕ → Output
 model_output show options files own bytes =
-    and_then (loaded_by (load (limits_of options) [] (text_blocks own bytes))) (main_output show options files (main_of (text_blocks own bytes)))
+    and_then (loaded_by (load (limits_of options) [] (text_blocks own bytes))) (main_output show options files (main_file own (text_blocks own bytes)))
 
 -- the output of a command that shows a file
 abbrev pub shown_output : Form → List ℕ → Options → Files → Output
@@ -150,15 +159,10 @@ generated_output count options files =
 abbrev pub found_output : List Finding → Output
 found_output findings = one_piece (findings_text findings) (if length findings == 0 then status.Done else status.Faulted)
 
--- what is found in the main model, by its file and its lines
-abbrev pub main_checked : List (List ℕ) → Option FileId → Output
-main_checked lines None = one_piece [] status.Done
-main_checked lines (Some main) = found_output (findings_of main lines)
-
--- in a model by its name and its bytes
-abbrev pub checked : Options → List ℕ → List ℕ → Output
+-- what is found in the main model's text, by the model's name and its bytes
+unfoldable pub checked : Options → List ℕ → List ℕ → Output
 checked options own bytes =
-    and_then (loaded_by (load (limits_of options) [] (text_blocks own bytes))) (λ known. main_checked (text_of own bytes) (main_of (text_blocks own bytes)))
+    and_then (loaded_by (load (limits_of options) [] (text_blocks own bytes))) (λ known. found_output (findings_of (main_file own (text_blocks own bytes)) (text_of own bytes)))
 
 -- the output of the command that checks a file
 abbrev pub check_output : List ℕ → Options → Files → Output
@@ -168,15 +172,14 @@ check_output file options files =
 -- ---- 7. Scripts.
 
 -- the output of a script over a model, once its texts are known
-abbrev pub main_replayed : Options → Counting → List Command → Files → Option FileId → Known → Output
-main_replayed options table commands files None known = one_piece [] status.Done
-main_replayed options table commands files (Some main) known =
+abbrev pub main_replayed : Options → Counting → List Command → Files → FileId → Known → Output
+main_replayed options table commands files main known =
     played (record { limits = limits_of options; table = table; main = main; colour = options.main }) files known commands
 
 -- over a model by its name and its bytes
-abbrev pub replayed : Options → Counting → List Command → Files → List ℕ → List ℕ → Output
+unfoldable pub replayed : Options → Counting → List Command → Files → List ℕ → List ℕ → Output
 replayed options table commands files own bytes =
-    and_then (loaded_by (load (limits_of options) [] (text_blocks own bytes))) (main_replayed options table commands files (main_of (text_blocks own bytes)))
+    and_then (loaded_by (load (limits_of options) [] (text_blocks own bytes))) (main_replayed options table commands files (main_file own (text_blocks own bytes)))
 
 -- the output of the command that answers a script over a file
 abbrev pub replay_output : List ℕ → List ℕ → Options → Files → Output

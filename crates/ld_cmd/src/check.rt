@@ -46,12 +46,8 @@ pub(crate) fn check_file<S: Shelf>(
     check_model(alloc, options, &own, bytes.as_slice())
 }
 
-fn check_model(
-    alloc: Global,
-    options: &Options,
-    own: &Name,
-    bytes: &[u8],
-) -> Result<Made, Stop>
+#[tactic(auto, unfolding(crate::specs::Output::checked))]
+fn check_model(alloc: Global, options: &Options, own: &Name, bytes: &[u8]) -> Result<Made, Stop>
     requires bounds { bad_limit (limits_of (options_shown options.now)) ≡ None }
     requires size { length bytes.now ≤ file_bytes }
     ensures told { Makes (checked (options_shown options.now) own.now bytes.now) result }

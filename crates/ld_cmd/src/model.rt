@@ -2,17 +2,17 @@
 ghost use Rattle.std.specs.Prelude.{◌≡◌, ◌≢◌, ◌≤◌, ◌++◌, ◌<◌, ◌^◌, [], ℕ, List, Ok, Err, IfOk, IfSome, Some, length, None};
 ghost use Rattle.std.specs.List.{flat_map};
 ghost use Rattle.ld_io.specs.Faults.{HasRisen};
-ghost use Rattle.ld_mpd.specs.Blocks.{text_blocks};
+ghost use Rattle.ld_mpd.specs.Blocks.{text_blocks, text_of};
 ghost use Rattle.ld_colour.specs.Table.{counting};
 ghost use Rattle.ld_engine.specs.Limits.{bad_limit};
-ghost use Rattle.ld_engine.specs.Loading.{load, main_of};
+ghost use Rattle.ld_engine.specs.Loading.{load};
 ghost use Rattle.ld_report.specs.Entries.{fault_text};
 ghost use Rattle.ld_steps.specs.Laws.{AreSteps};
 ghost use Rattle.ld_words.specs.Shown.{options_shown};
-ghost use Rattle.ld_cmd.specs.Made.{Gives, Makes};
-ghost use Rattle.ld_cmd.specs.Output.{file_bytes, limits_of, answered_output, loaded_by, main_output, model_output, queried_output};
+ghost use Rattle.ld_cmd.specs.Made.{Gives, Makes, queried_output};
+ghost use Rattle.ld_cmd.specs.Output.{answered_output, file_bytes, limits_of, loaded_by, main_file, main_output, model_output};
 ghost use Rattle.ld_cmd.specs.Written.{Output, shown_text};
-ghost use Rattle.ld_cmd.specs.Querying.{answer_queried};
+ghost use Rattle.ld_cmd.specs.Querying.{BeginsWith, IsFirst, answer_queried};
 
 use crate::answer::{Form, make_answer};
 use crate::inputs::FILE_BYTES;
@@ -24,7 +24,7 @@ use ld_colour::{Table, colour_of};
 use ld_engine::{Answer, AnswerError, Limits, LoadError, OpenError, Workspace};
 use ld_entry::Fault;
 use ld_io::Shelf;
-use ld_names::{FileId, Name};
+use ld_names::{FileId, Name, file_laws};
 use ld_report::print_fault;
 use ld_texts::Texts;
 use ld_words::Options;
@@ -50,6 +50,7 @@ pub(crate) fn limits_of(options: &Options) -> Limits
 }
 
 // What a model shows, by its name and its bytes.
+#[tactic(auto, unfolding(crate::specs::Output::model_output))]
 pub(crate) fn show_model<S: Shelf>(
     alloc: Global,
     what: Form,
@@ -97,7 +98,8 @@ pub(crate) fn load_model(
     requires size { length bytes.now ≤ workspace.old.limits.file_bytes }
     ensures limits { workspace.new.limits ≡ workspace.old.limits }
     ensures loaded { Gives (λ main. workspace.new.texts.known) (loaded_by (load workspace.old.limits [] (text_blocks own.now bytes.now))) result }
-    ensures main { IfOk result (λ main. main_of (text_blocks own.now bytes.now) ≡ Some main) }
+    ensures main { IfOk result (λ main. main_file own.now (text_blocks own.now bytes.now) ≡ main) }
+    ensures first { IfOk result (λ main. BeginsWith main (text_of own.now bytes.now) workspace.new.texts.known) }
     ensures no_fault { result ≢ Err Stop.ReadFault }
 {
     match workspace.load(own, bytes) {
@@ -117,11 +119,13 @@ fn show_main<S: Shelf>(
     shelf: &mut S,
 ) -> Result<Made, Stop>
     requires limits { workspace.old.limits ≡ limits_of (options_shown options.now) }
-    ensures told { IfSome (S.files shelf.old) (λ files. Makes (main_output (answered_output what (counting table.now)) (options_shown options.now) files (Some main.now) workspace.old.texts.known) result) }
+    requires first { IsFirst main.now workspace.old.texts.known }
+    ensures told { IfSome (S.files shelf.old) (λ files. Makes (main_output (answered_output what (counting table.now)) (options_shown options.now) files main.now workspace.old.texts.known) result) }
     ensures cause { result ≡ Err Stop.ReadFault → HasRisen (S.faults shelf.old) (S.faults shelf.new) }
     ensures same { S.files shelf.new ≡ S.files shelf.old }
     ensures never_falls { S.faults shelf.old ≤ S.faults shelf.new }
 {
+    file_laws();
     // Read here, so that the limit on entries is seen to be below 2^32.
     let _most = options.max_entries;
     let answer = ask(workspace, shelf, main, colour_of(options.main));
@@ -137,7 +141,8 @@ fn show_answer(
 ) -> Result<Made, Stop>
     requires size { IfOk answer (λ answer. length answer.entries < 2 ^ 32) }
     requires steps { IfOk answer (λ answer. AreSteps (length answer.entries) answer.steps) }
-    ensures shown { (wanted : Output) → IfSome (answer_queried answer) (λ given. queried_output (answered_output what (counting table.now)) texts.now.known given ≡ wanted) → Makes wanted result }
+    requires root { answer ≢ Err AnswerError.NoRoot }
+    ensures shown { (wanted : Output) → IfSome (answer_queried answer) (λ given. queried_output (answered_output what (counting table.now)) texts.now.known given ≡ Some wanted) → Makes wanted result }
     ensures fault { result ≡ Err Stop.ReadFault → answer ≡ Err AnswerError.ReadFault }
 {
     match answer {
@@ -148,11 +153,7 @@ fn show_answer(
         }),
         Err(AnswerError::TooBig(file)) => Err(about_file(alloc, &file)),
         Err(AnswerError::Full(over)) => Err(about_limit(alloc, over)),
-        // The main model is always there.
-        Err(AnswerError::NoRoot) => Ok(Made {
-            text: Vec::new(alloc),
-            status: Status::Done,
-        }),
+        Err(AnswerError::NoRoot) => unreachable!(),
         Err(AnswerError::ReadFault) => Err(Stop::ReadFault),
         Err(AnswerError::Memory) => Err(Stop::Memory),
     }

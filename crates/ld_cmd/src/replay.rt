@@ -41,7 +41,14 @@ pub(crate) fn play<S: Shelf, K: Sink>(
         mut workspace,
         commands,
     } = session;
-    answer_all(alloc, &setting, commands.as_slice(), &mut workspace, shelf, out)
+    answer_all(
+        alloc,
+        &setting,
+        commands.as_slice(),
+        &mut workspace,
+        shelf,
+        out,
+    )
 }
 
 fn answer_all<S: Shelf, K: Sink>(

@@ -44,7 +44,15 @@ pub(crate) fn reply<S: Shelf>(
         Command::Edit(edit) => answer_edit(alloc, edit, workspace, shelf),
         Command::Ask(query, root) => {
             let (file, colour) = (root_of(setting, root), colour_number(setting, root));
-            answer_query(alloc, shown(*query), file, colour_of(colour), &setting.table, workspace, shelf)
+            answer_query(
+                alloc,
+                shown(*query),
+                file,
+                colour_of(colour),
+                &setting.table,
+                workspace,
+                shelf,
+            )
         }
         Command::Bad(_) => Ok(List::from_slice(alloc, b"refused script\n")?),
     }

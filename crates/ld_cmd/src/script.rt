@@ -58,6 +58,7 @@ pub(crate) fn open_replay<S: Shelf>(
 }
 
 // A model is loaded, and its script is read.
+#[tactic(auto, unfolding(crate::specs::Output::replayed))]
 fn open_session(
     alloc: Global,
     options: &Options,

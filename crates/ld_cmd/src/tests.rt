@@ -193,7 +193,8 @@ fn the_outside_fails(rt: HostRuntime) -> Result<(), Fail> {
 
 const SCRIPT: &str = "new\tmodel\tm.ldr\nfaces\nparts";
 
-const REPLIES: &str = "0 4 3 refused filethere\npart 16 - parts/x.dat at model/m.ldr:1\ndone\n1 16 parts/x.dat\ndone\n";
+const REPLIES: &str =
+    "0 4 3 refused filethere\npart 16 - parts/x.dat at model/m.ldr:1\ndone\n1 16 parts/x.dat\ndone\n";
 
 // The replies before a fault stand, each whole.
 #[test]
