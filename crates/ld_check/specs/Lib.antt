@@ -4,5 +4,6 @@ pub mod Header
 pub mod Inside
 pub mod Lines
 pub mod Order
+pub mod Rows
 pub mod Text
 pub mod Vectors

@@ -9,6 +9,8 @@ mod header;
 mod order;
 mod passed;
 mod said;
+#[cfg(test)]
+mod tests;
 mod vector;
 
 pub use checking::check;

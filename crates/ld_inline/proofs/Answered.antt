@@ -1,24 +1,19 @@
 -- Answers can be inlined.
-use Rattle.std.proofs.Common.{◌≡◌, ◌+◌, ℕ, zero, suc, false, List, [], ◌∷◌, ◌++◌, length, map, Option, Some, None, Result, Ok, Err, refl, ap, sym, ◌∙◌, subst}
+use Rattle.std.proofs.Common.{◌≡◌, ℕ, zero, suc, false, List, [], ◌∷◌, ◌++◌, length, map, Option, Some, None, Ok, Err, refl, ap, ◌∙◌, subst}
 use Rattle.std.specs.Prelude.{All, IfOk, slice_get, sum}
-use Rattle.std.proofs.lemmas.List.{length-append}
-use Rattle.std.proofs.lemmas.List.Sums.{sum_by-cons}
-use Rattle.ld_names.specs.Standing.{Map}
-use Rattle.ld_names.specs.declared.file.FileId.{FileId}
 use Rattle.ld_names.specs.declared.file.TextId.{TextId}
 use Rattle.ld_line.specs.declared.line.Line.{Line}
 use Rattle.ld_line.specs.declared.line.Line.TheVariants.{Blank, Comment, Org, Bfc, Step, Rot, Ref, Draw}
 use Rattle.ld_line.specs.declared.line.Line.TheVariants as line
 use Rattle.ld_bfc.specs.LineState.{next, start}
 use Rattle.ld_bfc.specs.declared.culling.State.{State}
-use Rattle.ld_colour.specs.Colour.{is_lawful}
 use Rattle.ld_colour.specs.declared.colour.Colour.{Colour}
-use Rattle.ld_entry.specs.Answers.{answer, answer_by, entries_before, first_fault, left_below, unless_too_many}
+use Rattle.ld_entry.specs.Answers.{answer, entries_before, first_fault, left_below, unless_too_many}
 use Rattle.ld_entry.specs.Carrying.{Outcome, colour_above}
 use Rattle.ld_entry.specs.Laws.{LawfulLaw}
 use Rattle.ld_entry.specs.Lawful.{IsLawfulEntry}
 use Rattle.ld_entry.specs.NumberedTexts.{NumberedTexts, texts_over}
-use Rattle.ld_entry.specs.Outcomes.{Context, Enter, all_by_line, concatenation, context_of, line_outcomes, outcomes_by_line, outcomes_from}
+use Rattle.ld_entry.specs.Outcomes.{Context, Enter, all_by_line, concatenation, context_of, line_outcomes, outcomes_from}
 use Rattle.ld_entry.specs.declared.entry.Entry.{Entry}
 use Rattle.ld_entry.specs.declared.entry.Fault.{Fault}
 use Rattle.ld_entry.specs.declared.entry.Source.{Source}

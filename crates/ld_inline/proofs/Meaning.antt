@@ -1,16 +1,12 @@
 -- The inlined text means the flat answer.
-use Rattle.std.proofs.Common.{◌≡◌, ◌≤◌, ◌==◌, ◌&&◌, ℕ, zero, Bool, true, false, cond, List, [], ◌∷◌, ◌++◌, length, map, Option, Some, None, Result, Ok, Err, refl, ap, sym, ◌∙◌, subst, arith}
-use Rattle.std.specs.Prelude.{All, bytes_eq, slice_get, unwrap_or}
-use Rattle.std.specs.Map.{lookup}
+use Rattle.std.proofs.Common.{◌≡◌, ◌≤◌, ℕ, true, cond, List, [], ◌∷◌, ◌++◌, length, map, Some, None, Ok, Err, refl, ap, sym, ◌∙◌, arith}
+use Rattle.std.specs.Prelude.{All}
 use Rattle.std.proofs.lemmas.List.{length-map, map-append}
 use Rattle.std.proofs.lemmas.Option.{slice_get_past}
 use Rattle.std.proofs.lemmas.Slice.Eq.{bytes_eq-Decides}
 use Rattle.ld_names.specs.Standing.{file_in, known_map, same_file}
-use Rattle.ld_names.specs.declared.file.FileId.{FileId}
 use Rattle.ld_names.specs.declared.file.Folder.TheVariants.{Model}
-use Rattle.ld_names.specs.declared.file.TextId.{TextId}
 use Rattle.ld_line.specs.Cut.{lines_of}
-use Rattle.ld_line.specs.Part.{is_part_text}
 use Rattle.ld_line.specs.Reading.{line_of}
 use Rattle.ld_bfc.specs.LineState.{start}
 use Rattle.ld_colour.specs.Laws.{UnderLaws}
@@ -20,17 +16,16 @@ use Rattle.ld_entry.specs.Answers.{answer, answer_by, answer_of, entries_before,
 use Rattle.ld_entry.specs.Carrying.{Outcome, colour_above}
 use Rattle.ld_entry.specs.Lawful.{IsLawfulEntry}
 use Rattle.ld_entry.specs.NumberedTexts.{NumberedTexts, lines_in}
-use Rattle.ld_entry.specs.Outcomes.{all, all_by_line, concatenation, context_of, outcomes_from}
+use Rattle.ld_entry.specs.Outcomes.{all_by_line, concatenation, context_of, outcomes_from}
 use Rattle.ld_entry.specs.declared.entry.Entry.{Entry}
-use Rattle.ld_entry.specs.declared.entry.Fault.{Fault}
 use Rattle.ld_steps.specs.Laws.{AreSteps}
 use Rattle.ld_steps.specs.Parts.{parts_of}
 use Rattle.ld_steps.specs.declared.step.StepPart.{StepPart}
-use Rattle.ld_inline.specs.Flat.{Shape, flat, flat_shape, flat_step, shape_of, shapes_of}
+use Rattle.ld_inline.specs.Flat.{Shape, flat, flat_shape, shape_of, shapes_of}
 use Rattle.ld_inline.specs.Inside.Shown.{AreShownSteps, IsShown}
 use Rattle.ld_inline.specs.Meaning.{MeansFlat, ReadsAs, first_text, only_text, steps_of_answer}
 use Rattle.ld_inline.specs.Text.{text_of}
-use Rattle.ld_inline.proofs.Outcomes.{Seen, seen, seen_steps, text_again, unsourced}
+use Rattle.ld_inline.proofs.Outcomes.{seen, seen_steps, text_again, unsourced}
 use Rattle.ld_inline.proofs.Said.{Reads, said, text_says}
 use Rattle.ld_inline.proofs.StepsAgain.{flats, parts-again, steps-seen}
 

@@ -1,16 +1,14 @@
 -- What the lines of an inlined text give: the flat entries.
-use Rattle.std.proofs.Common.{◌≡◌, ◌+◌, ◌&&◌, ℕ, suc, Bool, true, false, List, [], ◌∷◌, ◌++◌, length, map, Option, Some, None, Result, Ok, Err, refl, ap, sym, ◌∙◌, append_assoc, unwrap_or}
-use Rattle.std.specs.Prelude.{All, slice_get, ⊤}
+use Rattle.std.proofs.Common.{◌≡◌, ◌&&◌, ℕ, suc, Bool, true, false, List, [], ◌∷◌, ◌++◌, map, Option, Some, None, Ok, Err, refl, ap, sym, ◌∙◌, append_assoc}
+use Rattle.std.specs.Prelude.{All}
 use Rattle.std.specs.List.{fold}
 use Rattle.std.proofs.Math.Bool.{and-true}
-use Rattle.std.proofs.lemmas.List.{map-append}
 use Rattle.std.proofs.lemmas.List.Elements.{All-head, All-tail}
 use Rattle.ld_names.specs.declared.file.TextId.{TextId}
 use Rattle.ld_num.specs.declared.point.Point.{Point}
-use Rattle.ld_line.specs.declared.line.BfcWord.TheVariants.{Certify}
 use Rattle.ld_line.specs.declared.line.Kind.{Kind}
 use Rattle.ld_line.specs.declared.line.Line.{Line}
-use Rattle.ld_line.specs.declared.line.Line.TheVariants.{Bfc, Draw}
+use Rattle.ld_line.specs.declared.line.Line.TheVariants.{Draw}
 use Rattle.ld_line.specs.declared.line.RotWord.{RotWord}
 use Rattle.ld_line.specs.declared.line.Winding.{Winding}
 use Rattle.ld_line.specs.declared.line.Winding.TheVariants.{Ccw}

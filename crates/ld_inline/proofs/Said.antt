@@ -1,6 +1,6 @@
 -- What the lines of an inlined text are read as.
-use Rattle.std.proofs.Common.{◌≡◌, ◌<◌, ◌+◌, ◌-◌, ◌^◌, ◌==◌, ◌&&◌, ℕ, Bool, true, false, not, List, [], ◌∷◌, ◌++◌, length, map, take, drop, reverse, Option, Some, None, refl, ap, sym, ◌∙◌, subst, arith, codes, unwrap_or, nat_le, nat_lt}
-use Rattle.std.specs.Prelude.{All, IfSome, replicate, ⊤}
+use Rattle.std.proofs.Common.{◌≡◌, ◌<◌, ◌+◌, ◌-◌, ◌^◌, ◌==◌, ◌&&◌, ℕ, Bool, true, false, not, List, [], ◌∷◌, ◌++◌, map, take, drop, Option, Some, None, refl, ap, sym, ◌∙◌, subst, arith, codes, unwrap_or}
+use Rattle.std.specs.Prelude.{All, IfSome, replicate}
 use Rattle.std.specs.List.{flat_map, fold, list_all}
 use Rattle.std.proofs.lemmas.Bool.{and_from, and_parts, le-leb, ltb-true, ne_eqb, not-true}
 use Rattle.std.proofs.lemmas.List.{map-append}
@@ -31,9 +31,9 @@ use Rattle.ld_entry.specs.declared.entry.Entry.{Entry}
 use Rattle.ld_entry.specs.declared.entry.Entry.TheVariants.{Drawn, Part}
 use Rattle.ld_steps.specs.declared.step.StepPart.{StepPart}
 use Rattle.ld_steps.specs.declared.step.Turn.{Turn}
-use Rattle.ld_inline.specs.Flat.{flat_colour, flat_points, turned_round}
+use Rattle.ld_inline.specs.Flat.{flat_colour, flat_points}
 use Rattle.ld_inline.specs.Inside.Shown.{AreFourPoints, AreShownSteps, IsShown, IsShownColour, IsShownRotation}
-use Rattle.ld_inline.specs.Text.{Words, clip_lines, colour_text, drawn_words, entries_in, entries_lines, entry_lines, lines_text, stands_behind, step_rotation, stepped_words, steps_lines, text_of, written_points}
+use Rattle.ld_inline.specs.Text.{Words, clip_lines, colour_text, drawn_words, entries_in, entries_lines, entry_lines, stands_behind, step_rotation, stepped_words, steps_lines, text_of, written_points}
 
 -- what is known of how words and lines are read
 pub record Reads : Type 0 where

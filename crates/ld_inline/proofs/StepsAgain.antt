@@ -1,6 +1,6 @@
 -- The steps of an inlined text, by the flat entries that its lines give.
-use Rattle.std.proofs.Common.{◌≡◌, ◌+◌, ◌-◌, ◌≤◌, ◌&&◌, ◌||◌, ℕ, suc, Bool, true, false, not, List, [], ◌∷◌, ◌++◌, length, map, take, drop, Option, Some, None, refl, ap, sym, ◌∙◌, subst, arith, append_assoc, append-nil}
-use Rattle.std.specs.Prelude.{All, sum}
+use Rattle.std.proofs.Common.{◌≡◌, ◌+◌, ◌-◌, ◌≤◌, ◌&&◌, ℕ, Bool, true, false, List, [], ◌∷◌, ◌++◌, length, map, take, drop, Option, Some, None, refl, ap, sym, ◌∙◌, arith, append_assoc, append-nil}
+use Rattle.std.specs.Prelude.{sum}
 use Rattle.std.specs.List.{fold, list_any}
 use Rattle.std.proofs.Math.Seq.{drop-length}
 use Rattle.std.proofs.lemmas.List.{drop-take, length-append, length-map, map-append, take-append-drop, take-take, take_all, take_at}
@@ -19,12 +19,11 @@ use Rattle.ld_steps.specs.Laws.{AreNextViews, AreSteps, Cover}
 use Rattle.ld_steps.specs.Parts.{part_of, parts_of}
 use Rattle.ld_steps.specs.Steps.{last_end, last_lines, last_of, shows, step_ends, step_lines, steps_between, steps_of}
 use Rattle.ld_steps.specs.View.{view_behind, viewed}
-use Rattle.ld_steps.specs.declared.step.StepMark.{StepMark}
 use Rattle.ld_steps.specs.declared.step.StepPart.{StepPart}
 use Rattle.ld_steps.specs.declared.step.Turn.{Turn}
 use Rattle.ld_inline.specs.Flat.{Shape, flat_points, flat_shape, flat_step, shape_of, shapes_of}
 use Rattle.ld_inline.specs.Text.{entries_in, stands_behind, step_rotation}
-use Rattle.ld_inline.proofs.Outcomes.{Seen, flat_entry, seen_clip, seen_entries, seen_entry, seen_steps}
+use Rattle.ld_inline.proofs.Outcomes.{flat_entry, seen_clip, seen_entries, seen_steps}
 use Rattle.ld_inline.proofs.Said.{colour_number, said, said_clip, said_entries, said_entry, said_rotation, said_steps}
 use Rattle.ld_inline.proofs.Views.{rotated_by, view_again}
 

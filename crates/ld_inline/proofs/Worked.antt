@@ -1,24 +1,19 @@
 -- The steps of the worked examples.
-use Rattle.std.proofs.Common.{◌≡◌, ◌≤◌, ℕ, false, List, [], ◌∷◌, length, refl, arith, inl, inr}
-use Rattle.std.specs.Prelude.{All}
+use Rattle.std.proofs.Common.{ℕ, [], ◌∷◌, refl, arith, inl, inr}
 use Rattle.std.proofs.lemmas.List.Elements.{All-cons, All-nil}
 use Rattle.ld_line.specs.declared.line.Angles.{Angles}
 use Rattle.ld_line.specs.declared.line.RotWord.TheVariants.{Add, End, Rel}
 use Rattle.ld_steps.specs.Laws.{AreSteps}
 use Rattle.ld_steps.specs.declared.step.StepPart.{StepPart}
-use Rattle.ld_steps.specs.declared.step.Turn.{Turn}
-use Rattle.ld_inline.specs.Rows.{step}
+use Rattle.ld_inline.specs.Rows.{relative, six_steps, step}
 use Rattle.ld_inline.proofs.Texts.{IsWithin}
 
 pub one_step : (count : ℕ) → AreSteps count (step 0 count [] ∷ [])
 one_step count =
     record { some = λ none. cc; cover = (refl, omega arith, refl); within = All-cons (IsWithin count) (step 0 count []) [] (omega arith, omega arith) (All-nil (IsWithin count)); views = (inl refl, tt) }
 
-abbrev relative : Angles → Turn
-relative angles = record { absolute = false; angles = angles }
-
-pub six_steps : (turn tilt : Angles) → AreSteps 4 (step 0 1 [] ∷ step 1 1 [] ∷ step 1 1 (relative turn ∷ []) ∷ step 1 1 (relative turn ∷ relative tilt ∷ []) ∷ step 1 3 [] ∷ step 3 4 [] ∷ [])
-six_steps turn tilt =
+pub are_steps : (turn tilt : Angles) → AreSteps 4 (six_steps (relative turn) (relative tilt))
+are_steps turn tilt =
     let P : StepPart → Type 0 = IsWithin 4 in
     let a = step 0 1 [] in
     let b = step 1 1 [] in

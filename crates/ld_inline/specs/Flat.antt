@@ -1,6 +1,6 @@
 -- What an inlined text means, which is this project's own: the drawn entries of an answer without their sources, all
 -- certified and counterclockwise, and its steps counted in them.
-use Rattle.std.specs.Prelude.{◌&&◌, ℕ, Bool, true, List, [], ◌∷◌, ◌++◌, length, map, take, drop, reverse, Option, Some, None, unwrap_or}
+use Rattle.std.specs.Prelude.{◌&&◌, ℕ, Bool, true, List, ◌++◌, length, map, take, drop, reverse, Option, Some, None, unwrap_or}
 use Rattle.std.specs.List.{filter_map}
 use Rattle.ld_num.specs.declared.point.Point.{Point}
 use Rattle.ld_line.specs.declared.line.Kind.{Kind}

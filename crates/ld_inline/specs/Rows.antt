@@ -1,18 +1,14 @@
 -- Worked examples of inlined texts.
-use Rattle.std.specs.Prelude.{◌*◌, ◌==◌, ℕ, pos, Bool, true, false, List, [], ◌∷◌, Option, Some, None, if◌then◌else◌}
+use Rattle.std.specs.Prelude.{◌*◌, ◌==◌, ℕ, pos, Bool, false, List, [], ◌∷◌, Some, None, if◌then◌else◌}
 use Rattle.ld_num.specs.declared.point.Point.{Point}
-use Rattle.ld_line.specs.Word.{ended}
 use Rattle.ld_line.specs.declared.line.Angles.{Angles}
 use Rattle.ld_line.specs.declared.line.Kind.{Kind}
-use Rattle.ld_line.specs.declared.line.Kind.TheVariants.{Line2, Tri, Quad, Opt}
 use Rattle.ld_line.specs.declared.line.Winding.{Winding}
-use Rattle.ld_line.specs.declared.line.Winding.TheVariants.{Ccw, Cw}
 use Rattle.ld_colour.specs.Table.{Counting}
 use Rattle.ld_colour.specs.declared.colour.Colour.{Colour}
-use Rattle.ld_colour.specs.declared.colour.Colour.TheVariants.{Main, Edge, Code, EdgeOf, Direct}
 use Rattle.ld_colour.specs.declared.definition.DefinedEdge.TheVariants.{Value, ValueOf}
 use Rattle.ld_entry.specs.declared.entry.Entry.{Entry}
-use Rattle.ld_entry.specs.declared.entry.Entry.TheVariants.{Drawn, Part}
+use Rattle.ld_entry.specs.declared.entry.Entry.TheVariants.{Drawn}
 use Rattle.ld_entry.specs.declared.entry.Source.{Source}
 use Rattle.ld_steps.specs.declared.step.StepPart.{StepPart}
 use Rattle.ld_steps.specs.declared.step.Turn.{Turn}
@@ -35,8 +31,15 @@ entry kind certified clip winding colour points = Drawn kind certified clip wind
 abbrev pub step : ℕ → ℕ → List Turn → StepPart
 step first end view = record { first = first; end = end; view = view }
 
+abbrev pub relative : Angles → Turn
+relative angles = record { absolute = false; angles = angles }
+
 abbrev pub turned : ℕ → ℕ → Turn
-turned x y = record { absolute = false; angles = record { x = pos (x * 1000000); y = pos (y * 1000000); z = pos 0 } }
+turned x y = relative (record { x = pos (x * 1000000); y = pos (y * 1000000); z = pos 0 })
+
+-- the steps of the worked example steps
+abbrev pub six_steps : Turn → Turn → List StepPart
+six_steps turn tilt = step 0 1 [] ∷ step 1 1 [] ∷ step 1 1 (turn ∷ []) ∷ step 1 1 (turn ∷ tilt ∷ []) ∷ step 1 3 [] ∷ step 3 4 [] ∷ []
 
 -- the colours Red, Blue and Black of the worked example colours
 abbrev pub colours : Counting

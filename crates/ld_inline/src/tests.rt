@@ -1,11 +1,11 @@
 //! Worked texts without references.
-ghost use Rattle.std.specs.Prelude.{◌≡◌, ◌<◌, ◌≤◌, ◌∷◌, [], Err, IfOk, Ok, codes, length, true, false};
+ghost use Rattle.std.specs.Prelude.{◌≡◌, ◌<◌, ◌≤◌, ◌++◌, ◌∷◌, [], Err, IfOk, Ok, OnOk, codes, length, true, false};
 ghost use Rattle.ld_line.specs.Word.{ended};
 ghost use Rattle.ld_line.specs.declared.line.Kind.TheVariants.{Line2, Opt, Quad, Tri};
 ghost use Rattle.ld_line.specs.declared.line.Winding.TheVariants.{Ccw, Cw};
 ghost use Rattle.ld_colour.specs.declared.colour.Colour.TheVariants.{Code, Direct, Edge, EdgeOf, Main};
 ghost use Rattle.ld_steps.specs.Laws.{AreSteps};
-ghost use Rattle.ld_inline.specs.Rows.{along, colours, corner, entry, no_colours, step, turned};
+ghost use Rattle.ld_inline.specs.Rows.{along, colours, corner, entry, no_colours, relative, six_steps, step, turned};
 ghost use Rattle.ld_inline.specs.Text.{inlined_text};
 
 use crate::inlining::NO_POINTS;
@@ -135,11 +135,18 @@ fn text_of(alloc: Global, lines: &str) -> Result<Vec<u8>, AllocError> {
     Ok(text)
 }
 
-fn step_of(alloc: Global, first: u32, end: u32, turns: &[Turn]) -> Result<StepPart, AllocError>
-    ensures { IfOk result (λ part. part ≡ step first end turns.now) }
+fn push_step(
+    alloc: Global,
+    first: u32,
+    end: u32,
+    turns: &[Turn],
+    steps: &mut Vec<StepPart>,
+) -> Result<(), AllocError>
+    ensures { OnOk result (steps.new.items ≡ steps.old.items ++ step first end turns.now ∷ []) }
 {
     let view = List::from_slice(alloc, turns)?;
-    Ok(StepPart { first, end, view })
+    steps.push(StepPart { first, end, view })?;
+    Ok(())
 }
 
 #[tactic(auto, using(crate::proofs::Worked::one_step))]
@@ -147,29 +154,37 @@ fn one_step(alloc: Global, count: u32) -> Result<Vec<StepPart>, AllocError>
     ensures { IfOk result (λ steps. AreSteps count steps.items) }
 {
     let mut steps = Vec::new(alloc);
-    steps.push(step_of(alloc, 0, count, &[])?)?;
+    push_step(alloc, 0, count, &[], &mut steps)?;
     Ok(steps)
 }
 
-#[tactic(auto, using(crate::proofs::Worked::six_steps))]
-fn six_steps(alloc: Global, turn: Angles, tilt: Angles) -> Result<Vec<StepPart>, AllocError>
+fn relative(angles: Angles) -> Turn
+    ensures { result ≡ relative angles }
+{
+    Turn {
+        absolute: false,
+        angles,
+    }
+}
+
+fn six_steps(alloc: Global, turn: Turn, tilt: Turn) -> Result<Vec<StepPart>, AllocError>
+    ensures { IfOk result (λ steps. steps.items ≡ six_steps turn tilt) }
+{
+    let turns = [turn, tilt];
+    let mut steps = Vec::new(alloc);
+    push_step(alloc, 0, 1, &[], &mut steps)?;
+    push_step(alloc, 1, 1, &[], &mut steps)?;
+    push_step(alloc, 1, 1, &turns[..1], &mut steps)?;
+    push_step(alloc, 1, 1, &turns, &mut steps)?;
+    push_step(alloc, 1, 3, &[], &mut steps)?;
+    push_step(alloc, 3, 4, &[], &mut steps)?;
+    Ok(steps)
+}
+
+fn stepped(alloc: Global, turn: Angles, tilt: Angles) -> Result<Vec<StepPart>, AllocError>
     ensures { IfOk result (λ steps. AreSteps 4 steps.items) }
 {
-    let turn = Turn {
-        absolute: false,
-        angles: turn,
-    };
-    let tilt = Turn {
-        absolute: false,
-        angles: tilt,
-    };
-    let mut steps = Vec::new(alloc);
-    steps.push(step_of(alloc, 0, 1, &[])?)?;
-    steps.push(step_of(alloc, 1, 1, &[])?)?;
-    steps.push(step_of(alloc, 1, 1, &[turn])?)?;
-    steps.push(step_of(alloc, 1, 1, &[turn, tilt])?)?;
-    steps.push(step_of(alloc, 1, 3, &[])?)?;
-    steps.push(step_of(alloc, 3, 4, &[])?)?;
+    let steps = six_steps(alloc, relative(turn), relative(tilt))?;
     Ok(steps)
 }
 
@@ -208,7 +223,7 @@ fn steps_are_inlined(rt: HostRuntime) -> Result<(), Fail> {
     assert!(rt; entries.len() == 4);
     let turn = angles_of(alloc, "0 ROTSTEP 0 45 0 REL")?;
     let tilt = angles_of(alloc, "0 ROTSTEP 10 0 0 REL")?;
-    let steps = six_steps(alloc, turn, tilt)?;
+    let steps = stepped(alloc, turn, tilt)?;
     let text = inline(alloc, &entries, &steps, &Table::empty(alloc)).map_err(|_| "not inlined")?;
     assert_eq!(rt; text, text_of(alloc, STEPPED_TEXT)?);
     Ok(())
@@ -222,6 +237,6 @@ fn inlined_by_definition()
     ensures missing { inlined_text (entry Line2 false true Ccw (Code 4) (along 1) ∷ entry Line2 false true Ccw (EdgeOf 4) (along 1) ∷ entry Line2 false true Ccw (EdgeOf 1) (along 1) ∷ []) (step 0 3 [] ∷ []) no_colours ≡ Err 4 }
     ensures edges { inlined_text (entry Line2 false true Ccw (EdgeOf 4) (along 1) ∷ entry Line2 false true Cw (EdgeOf 1) (along 1) ∷ entry Quad true true Cw (Direct 0xFF8000) corner ∷ []) (step 0 3 [] ∷ []) colours
         ≡ Ok (ended (codes "0 BFC CERTIFY CCW" ∷ codes "0 BFC NOCLIP" ∷ codes "2 0x2333333 0 0 0 1 0 0" ∷ codes "2 0x205131D 0 0 0 1 0 0" ∷ codes "0 BFC CLIP" ∷ codes "4 0x2FF8000 0 0 0 0 1 0 1 0 0 0 0 0" ∷ codes "0 STEP" ∷ [])) }
-    ensures steps { inlined_text (entry Line2 false true Ccw Edge (along 1) ∷ entry Line2 false true Ccw Edge (along 3) ∷ entry Line2 false true Ccw Edge (along 4) ∷ entry Line2 false true Ccw Edge (along 2) ∷ []) (step 0 1 [] ∷ step 1 1 [] ∷ step 1 1 (turned 0 45 ∷ []) ∷ step 1 1 (turned 0 45 ∷ turned 10 0 ∷ []) ∷ step 1 3 [] ∷ step 3 4 [] ∷ []) no_colours
+    ensures steps { inlined_text (entry Line2 false true Ccw Edge (along 1) ∷ entry Line2 false true Ccw Edge (along 3) ∷ entry Line2 false true Ccw Edge (along 4) ∷ entry Line2 false true Ccw Edge (along 2) ∷ []) (six_steps (turned 0 45) (turned 10 0)) no_colours
         ≡ Ok (ended (codes "0 BFC CERTIFY CCW" ∷ codes "0 BFC NOCLIP" ∷ codes "2 24 0 0 0 1 0 0" ∷ codes "0 STEP" ∷ codes "0 STEP" ∷ codes "0 ROTSTEP 0 45 0 REL" ∷ codes "0 ROTSTEP 10 0 0 ADD" ∷ codes "2 24 0 0 0 3 0 0" ∷ codes "2 24 0 0 0 4 0 0" ∷ codes "0 ROTSTEP END" ∷ codes "2 24 0 0 0 2 0 0" ∷ codes "0 STEP" ∷ [])) }
 {}

@@ -1,5 +1,5 @@
 -- What is known of entries and steps that Rust holds: their numbers are in range.
-use Rattle.std.specs.Prelude.{◌≡◌, ◌<◌, ◌^◌, ℕ, All, List, [], ◌∷◌, ◌++◌, length, Option, Some, None, ⊤}
+use Rattle.std.specs.Prelude.{◌≡◌, ◌<◌, ◌^◌, ℕ, All, List, [], ◌∷◌, length, Option, Some, None, ⊤}
 use Rattle.std.specs.List.{flat_map}
 use Rattle.ld_line.specs.Printing.{IsPoint, IsTurn}
 use Rattle.ld_line.specs.declared.line.RotWord.{RotWord}

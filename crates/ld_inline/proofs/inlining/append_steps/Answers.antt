@@ -1,8 +1,7 @@
-use Rattle.std.proofs.Common.{◌≡◌, ◌≤◌, ◌++◌, ◌∷◌, [], List, length, rules, ap, ◌∙◌, subst}
-use Rattle.std.specs.List.{fold}
+use Rattle.std.proofs.Common.{◌≡◌, ◌++◌, ◌∷◌, [], length, rules, ap, ◌∙◌, subst}
 use Rattle.ld_colour.specs.Table.{counting}
 use Rattle.ld_inline.specs.Inside.Shown.{IsShownStep}
-use Rattle.ld_inline.specs.Text.{entries_in, entries_lines, lines_text, stands_behind, step_rotation, stepped_words}
+use Rattle.ld_inline.specs.Text.{entries_in, entries_lines, lines_text, step_rotation, stepped_words}
 use Rattle.ld_inline.proofs.Texts.{shown_more, steps_more, within_more}
 use Rattle.ld_inline.proofs.inlining.append_steps.Goals as goal
 
