@@ -4,7 +4,8 @@ use Rattle.ld_io.specs.Shelf.{Files}
 use Rattle.ld_cmd.specs.declared.status.Status.{Status}
 use Rattle.ld_cmd.specs.declared.status.Status.TheVariants.{Done, Faulted, Usage, Input, ReadFault, WriteFault, Memory, Limit}
 use Rattle.ld_cmd.specs.Ending.{EndsAs, IsComplete, Takes}
-use Rattle.ld_cmd.specs.Output.{Output, usage, usage_line}
+use Rattle.ld_cmd.specs.Output.{usage, usage_line}
+use Rattle.ld_cmd.specs.Written.{Output}
 
 -- the status of a run over files that are told
 abbrev pub EndsTold : Status → (Files → Output) → Option Files → Type 0
@@ -41,3 +42,15 @@ usage_ends status wanted (Some files) is ends = subst (λ out. EndsAs status out
 pub usage_takes : (status : Status) (wanted : Files → Output) (files : Option Files) (before after : Option (List ℕ)) → UsageTold wanted files → IfSome before (λ b. Takes status (usage_line ∷ []) b after) → TakesTold status wanted files before after
 usage_takes status wanted None before after is takes = tt
 usage_takes status wanted (Some files) before after is takes = subst (λ out. IfSome before (λ b. Takes status out.pieces b after)) is takes
+
+-- one output is another
+abbrev pub SameTold : (Files → Output) → (Files → Output) → Option Files → Type 0
+SameTold given wanted files = IfSome files (λ f. given f ≡ wanted f)
+
+pub same_ends : (status : Status) (given wanted : Files → Output) (files : Option Files) → SameTold given wanted files → EndsTold status given files → EndsTold status wanted files
+same_ends status given wanted None same ends = tt
+same_ends status given wanted (Some files) same ends = subst (λ out. EndsAs status out.status) same ends
+
+pub same_takes : (status : Status) (given wanted : Files → Output) (files : Option Files) (before after : Option (List ℕ)) → SameTold given wanted files → TakesTold status given files before after → TakesTold status wanted files before after
+same_takes status given wanted None before after same takes = tt
+same_takes status given wanted (Some files) before after same takes = subst (λ out. IfSome before (λ b. Takes status out.pieces b after)) same takes

@@ -1,5 +1,8 @@
 pub mod Bounds
 mod Bricks
 pub mod Endings
+pub mod Leaves
+pub mod Opening
 mod Queries
 pub mod Sizes
+pub mod Steps

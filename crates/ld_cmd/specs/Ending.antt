@@ -1,10 +1,10 @@
 -- How a run may end: its status, and what its sink has taken then.
-use Rattle.std.specs.Prelude.{◌≡◌, ◌≢◌, ℕ, ◌-◌, ◌<◌, ◌≤◌, List, ◌++◌, length, take, Option, Some, None, ◌⊎◌}
+use Rattle.std.specs.Prelude.{◌≡◌, ◌≢◌, ℕ, ◌-◌, ◌<◌, ◌≤◌, List, ◌++◌, length, take, Option, Some, None, ◌⊎◌, ⊤}
 use Rattle.std.specs.List.{concat}
 use Rattle.ld_cmd.specs.declared.status.Status.{Status}
 use Rattle.ld_cmd.specs.declared.status.Status.TheVariants.{Done, Faulted, Usage, Input, ReadFault, WriteFault, Memory, Limit}
-use Rattle.ld_cmd.specs.Output.{Output}
-use Rattle.ld_words.specs.Words.{Intent}
+use Rattle.ld_cmd.specs.Written.{Output}
+use Rattle.ld_words.specs.Words.{Intent, Task, Show, Replay, Generate}
 
 -- what stops a run before its end
 pub data Interruption : Type 0 where
@@ -58,6 +58,16 @@ abbrev pub IsComplete : Status → Output → List ℕ → Option (List ℕ) →
 IsComplete status wanted before after =
     ((status ≡ wanted.status) × TakesAll wanted.pieces before after) ⊎ ((status ≡ Memory) × TakesSome wanted.pieces before after)
 
+abbrev pub StopsPut : Option Interruption → Type 0
+StopsPut None = ⊥
+StopsPut (Some Reading) = ⊥
+StopsPut (Some Writing) = ⊤
+StopsPut (Some Room) = ⊤
+
+-- the status of a run that was stopped as it put a piece
+abbrev pub IsStoppedPut : Status → Type 0
+IsStoppedPut status = StopsPut (interruption_of status)
+
 -- what was taken before stands in front
 abbrev pub StandsInFront : List ℕ → Option (List ℕ) → Type 0
 StandsInFront before after = (more : List ℕ) × (after ≡ Some (before ++ more))
@@ -67,6 +77,16 @@ NothingAfter None before after = Unit {0}
 NothingAfter (Some Reading) before after = after ≡ Some before
 NothingAfter (Some Writing) before after = Unit {0}
 NothingAfter (Some Room) before after = after ≡ Some before
+
+-- all is put in one piece: only a script's replies are not
+abbrev pub PutsOnceFor : Task → Type 0
+PutsOnceFor (Show what file) = ⊤
+PutsOnceFor (Replay file script) = ⊥
+PutsOnceFor (Generate count) = ⊤
+
+abbrev pub PutsOnce : Option Intent → Type 0
+PutsOnce None = ⊤
+PutsOnce (Some intent) = PutsOnceFor intent.task
 
 -- nothing is taken where reading or memory stopped the run
 abbrev pub TakesNothing : Status → List ℕ → Option (List ℕ) → Type 0

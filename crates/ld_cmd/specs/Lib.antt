@@ -1,6 +1,10 @@
 pub mod Ending
 pub mod Folders
 pub mod Generator
+pub mod Leaving
 pub mod Made
 pub mod Output
+pub mod Playing
 pub mod Querying
+pub mod Replying
+pub mod Written

@@ -1,6 +1,7 @@
 -- What the code's values say.
 use Rattle.std.specs.Prelude.{◌≡◌, ℕ, List, Option, Some, None, Result, Ok, Err}
-use Rattle.ld_cmd.specs.Output.{Output, one_piece, usage}
+use Rattle.ld_cmd.specs.Output.{usage}
+use Rattle.ld_cmd.specs.Written.{Output, one_piece}
 use Rattle.ld_cmd.specs.declared.made.Made.{Made}
 use Rattle.ld_cmd.specs.declared.made.Stop.{Stop}
 use Rattle.ld_cmd.specs.declared.made.Stop.TheVariants.{Usage, Decided, ReadFault, Memory}
@@ -28,7 +29,7 @@ Gives view wanted (Err ReadFault) = Unit {0}
 Gives view wanted (Err Memory) = Unit {0}
 
 -- the words are faulty, or memory was lacking
-abbrev pub IsFaulty : Result Made Stop → Type 0
+abbrev pub IsFaulty : {A : Type 0} → Result A Stop → Type 0
 IsFaulty (Err Usage) = Unit {0}
 IsFaulty (Err Memory) = Unit {0}
 IsFaulty result = ⊥

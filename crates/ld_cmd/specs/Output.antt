@@ -27,20 +27,11 @@ use Rattle.ld_cmd.specs.declared.answer.Shown.{Shown}
 use Rattle.ld_cmd.specs.declared.answer.Shown.TheVariants.{Faces, Steps, Parts, Summary}
 use Rattle.ld_cmd.specs.declared.status.Status.{Status}
 use Rattle.ld_cmd.specs.declared.status.Status.TheVariants as status
+use Rattle.ld_script.specs.Script.{commands_of}
+use Rattle.ld_script.specs.declared.command.Command.{Command}
+use Rattle.ld_cmd.specs.Playing.{played}
+use Rattle.ld_cmd.specs.Written.{Output, and_then, one_piece, over_text, shown_text, stop_text}
 use Rattle.ld_cmd.specs.Querying.{Queried, Stops, NoRoot, Faulted, Answered, queried}
-
-pub record Output : Type 0 where
-  -- the pieces in which the bytes are written
-  pub pieces : List (List ℕ)
-  pub status : Status
-
-abbrev pub one_piece : List ℕ → Status → Output
-one_piece text status = record { pieces = text ∷ []; status = status }
-
--- goes on with what there is, unless the output is decided
-abbrev pub and_then : {A : Type 0} → Result A Output → (A → Output) → Output
-and_then (Ok value) further = further value
-and_then (Err output) further = output
 
 -- ---- 1. Words that are no command, and commands that are not answered yet.
 
@@ -56,7 +47,7 @@ is_answered (Show listing.Steps file) = true
 is_answered (Show listing.Parts file) = true
 is_answered (Show listing.Inline file) = false
 is_answered (Show listing.Check file) = false
-is_answered (Replay file script) = false
+is_answered (Replay file script) = true
 is_answered (Generate count) = true
 
 -- what the words ask for, if they are a command that is answered
@@ -119,28 +110,12 @@ abbrev pub limits_of : Options → Limits
 limits_of options =
     record { entries = options.max_entries; depth = options.max_depth; cache = options.cache; texts = 65535; file_bytes = file_bytes; total_weight = 268435456 }
 
--- the line about a limit, with what was kept before it
-abbrev pub over_text : Over → List ℕ
-over_text (over.Files kept) = codes "full files " ++ decimal kept ++ codes "\n"
-over_text (over.Weight kept) = codes "full weight " ++ decimal kept ++ codes "\n"
-
 -- the texts that are known once a model is loaded
 abbrev pub loaded_by : Result Known Over → Result Known Output
 loaded_by (Ok known) = Ok known
 loaded_by (Err passed) = Err (one_piece (over_text passed) status.Limit)
 
 -- ---- 5. Queries.
-
--- what is shown of an answer, by the colours that are defined and the files that are known
-abbrev pub shown_text : Shown → Counting → Known → Answer → List ℕ
-shown_text Faces table known answer = entries_text known table answer.entries
-shown_text Steps table known answer = steps_text known table answer.entries answer.steps
-shown_text Parts table known answer = parts_text known (parts_of answer.entries)
-shown_text Summary table known answer = summary_text (length answer.entries) (length (parts_of answer.entries)) (length answer.steps)
-
-abbrev pub stop_text : Stop → List ℕ
-stop_text (TooBig file) = codes "toobig " ++ file_text file ++ codes "\n"
-stop_text (Full passed) = over_text passed
 
 -- the output of a query; the main model is there, so that its root never lacks
 abbrev pub queried_output : (Known → Answer → List ℕ) → Known → Queried → Output
@@ -170,6 +145,24 @@ abbrev pub generated_output : ℕ → Options → Files → Output
 generated_output count options files =
     and_then (table_of options.colours files) (λ table. model_output (shown_text Summary table) options files (codes "gen.mpd") (generated count))
 
+-- ---- 7. Scripts.
+
+-- the output of a script over a model, once its texts are known
+abbrev pub main_replayed : Options → Counting → List Command → Files → Option FileId → Known → Output
+main_replayed options table commands files None known = one_piece [] status.Done
+main_replayed options table commands files (Some main) known =
+    played (record { limits = limits_of options; table = table; main = main; colour = options.main }) files known commands
+
+-- over a model by its name and its bytes
+abbrev pub replayed : Options → Counting → List Command → Files → List ℕ → List ℕ → Output
+replayed options table commands files own bytes =
+    and_then (loaded_by (load (limits_of options) [] (text_blocks own bytes))) (main_replayed options table commands files (main_of (text_blocks own bytes)))
+
+-- the output of the command that answers a script over a file
+abbrev pub replay_output : List ℕ → List ℕ → Options → Files → Output
+replay_output file script options files =
+    and_then (input file (files Work file)) (λ bytes. and_then (input script (files Work script)) (λ lines. and_then (table_of options.colours files) (λ table. replayed options table (commands_of lines) files (own_name file) bytes)))
+
 -- ---- The whole.
 
 abbrev pub task_output : Task → Options → Files → Output
@@ -178,7 +171,7 @@ task_output (Show listing.Steps file) options files = shown_output Steps file op
 task_output (Show listing.Parts file) options files = shown_output Parts file options files
 task_output (Show listing.Inline file) options files = usage
 task_output (Show listing.Check file) options files = usage
-task_output (Replay file script) options files = usage
+task_output (Replay file script) options files = replay_output file script options files
 task_output (Generate count) options files = generated_output count options files
 
 abbrev pub commanded : Option Intent → Files → Output

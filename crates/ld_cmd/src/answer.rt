@@ -5,7 +5,7 @@ ghost use Rattle.ld_report.specs.Entries.{entries_text};
 ghost use Rattle.ld_report.specs.Parts.{parts_of, parts_text};
 ghost use Rattle.ld_report.specs.Steps.{steps_text};
 ghost use Rattle.ld_cmd.specs.Generator.{summary_text};
-ghost use Rattle.ld_cmd.specs.Output.{shown_text};
+ghost use Rattle.ld_cmd.specs.Written.{shown_text};
 
 use crate::generator::summary;
 use ld_colour::Table;

@@ -10,8 +10,13 @@ mod made;
 mod make;
 mod model;
 mod os;
+mod put;
 mod query;
+mod replay;
+mod reply;
 mod run;
+mod script;
+mod session;
 mod status;
 #[cfg(test)]
 mod tests;

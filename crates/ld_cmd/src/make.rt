@@ -6,7 +6,12 @@ ghost use Rattle.ld_names.specs.declared.name.NameError.{NameError};
 ghost use Rattle.ld_engine.specs.Limits.{bad_limit};
 ghost use Rattle.ld_words.specs.Shown.{intent_shown, options_shown};
 ghost use Rattle.ld_words.specs.Words.{IsBounded};
+ghost use Rattle.ld_io.specs.Shelf.{Files};
+ghost use Rattle.ld_cmd.specs.Ending.{PutsOnce};
 ghost use Rattle.ld_cmd.specs.Made.{IsFaulty, Makes};
+ghost use Rattle.ld_cmd.specs.Replying.{IsNoScript, Opens, Works};
+ghost use Rattle.ld_cmd.specs.Written.{Output};
+ghost use Rattle.ld_cmd.specs.declared.made.Stop.{Stop};
 ghost use Rattle.ld_cmd.specs.Output.{after_slash, answered_intent, commanded, generated_output, limits_of, name_or_default, output, own_name, request_of, shown_output};
 
 use crate::answer::Shown;
@@ -14,6 +19,8 @@ use crate::generator::generate;
 use crate::inputs::{read_input, read_table};
 use crate::made::{Made, Stop};
 use crate::model::show_model;
+use crate::script::open_replay;
+use crate::session::{Session, Work};
 use ld_io::Shelf;
 use ld_names::{Name, NameError, normal};
 use ld_words::{Listing, Options, Request, Task, given_words, is_command, read_request};
@@ -21,13 +28,14 @@ use std::alloc::{AllocError, Global};
 
 // What the words give.
 #[tactic(auto, unfolding(crate::specs::Output::output))]
-pub(crate) fn make_output<S: Shelf>(
+pub(crate) fn make_work<S: Shelf>(
     alloc: Global,
     words: &[String],
     shelf: &mut S,
-) -> Result<Made, Stop>
-    ensures told { IfSome (S.files shelf.old) (λ files. Makes (output (map string_bytes words.now) files) result) }
+) -> Result<Work, Stop>
+    ensures told { IfSome (S.files shelf.old) (λ files. Works (output (map string_bytes words.now) files) files result) }
     ensures faulty { request_of (map string_bytes words.now) ≡ None → IsFaulty result }
+    ensures once { PutsOnce (request_of (map string_bytes words.now)) → IsNoScript result }
     ensures command { IsSome (request_of (map string_bytes words.now)) → result ≢ Err Stop.Usage }
     ensures cause { result ≡ Err Stop.ReadFault → HasRisen (S.faults shelf.old) (S.faults shelf.new) }
     ensures same { S.files shelf.new ≡ S.files shelf.old }
@@ -42,10 +50,11 @@ pub(crate) fn make_output<S: Shelf>(
 }
 
 #[tactic(auto, using(crate::proofs::Bounds::limits_are_good))]
-fn make_request<S: Shelf>(alloc: Global, request: &Request, shelf: &mut S) -> Result<Made, Stop>
+fn make_request<S: Shelf>(alloc: Global, request: &Request, shelf: &mut S) -> Result<Work, Stop>
     requires bounds { IsBounded (intent_shown request.now) }
-    ensures told { IfSome (S.files shelf.old) (λ files. Makes (commanded (answered_intent (Some (intent_shown request.now))) files) result) }
+    ensures told { IfSome (S.files shelf.old) (λ files. Works (commanded (answered_intent (Some (intent_shown request.now))) files) files result) }
     ensures faulty { answered_intent (Some (intent_shown request.now)) ≡ None → IsFaulty result }
+    ensures once { PutsOnce (answered_intent (Some (intent_shown request.now))) → IsNoScript result }
     ensures command { IsSome (answered_intent (Some (intent_shown request.now))) → result ≢ Err Stop.Usage }
     ensures cause { result ≡ Err Stop.ReadFault → HasRisen (S.faults shelf.old) (S.faults shelf.new) }
     ensures same { S.files shelf.new ≡ S.files shelf.old }
@@ -53,11 +62,41 @@ fn make_request<S: Shelf>(alloc: Global, request: &Request, shelf: &mut S) -> Re
 {
     let options = &request.options;
     match request.task {
-        Task::Show(Listing::Faces, file) => show_file(alloc, Shown::Faces, file, options, shelf),
-        Task::Show(Listing::Steps, file) => show_file(alloc, Shown::Steps, file, options, shelf),
-        Task::Show(Listing::Parts, file) => show_file(alloc, Shown::Parts, file, options, shelf),
-        Task::Generate(count) => show_generated(alloc, count, options, shelf),
-        Task::Show(Listing::Inline | Listing::Check, _) | Task::Replay(_, _) => Err(Stop::Usage),
+        Task::Show(Listing::Faces, file) => {
+            written(show_file(alloc, Shown::Faces, file, options, shelf))
+        }
+        Task::Show(Listing::Steps, file) => {
+            written(show_file(alloc, Shown::Steps, file, options, shelf))
+        }
+        Task::Show(Listing::Parts, file) => {
+            written(show_file(alloc, Shown::Parts, file, options, shelf))
+        }
+        Task::Generate(count) => written(show_generated(alloc, count, options, shelf)),
+        Task::Replay(file, script) => {
+            played(open_replay(alloc, file, script, options, shelf))
+        }
+        Task::Show(Listing::Inline | Listing::Check, _) => Err(Stop::Usage),
+    }
+}
+
+fn written(made: Result<Made, Stop>) -> Result<Work, Stop>
+    ensures told { (files : Option Files) (wanted : Files → Output) → IfSome files (λ all. Makes (wanted all) made) → IfSome files (λ all. Works (wanted all) all result) }
+    ensures once { IsNoScript result }
+    ensures stopped { (stop : Stop) → result ≡ Err stop → made ≡ Err stop }
+{
+    match made {
+        Ok(made) => Ok(Work::Write(made)),
+        Err(stop) => Err(stop),
+    }
+}
+
+fn played(session: Result<Session, Stop>) -> Result<Work, Stop>
+    ensures told { (files : Option Files) (wanted : Files → Output) → IfSome files (λ all. Opens (wanted all) all session) → IfSome files (λ all. Works (wanted all) all result) }
+    ensures stopped { (stop : Stop) → result ≡ Err stop → session ≡ Err stop }
+{
+    match session {
+        Ok(session) => Ok(Work::Play(session)),
+        Err(stop) => Err(stop),
     }
 }
 
@@ -131,7 +170,7 @@ fn generated_name(alloc: Global) -> Result<Name, AllocError>
 }
 
 // The main model's own name, by the word that names its file.
-fn own_name(alloc: Global, word: &[u8]) -> Result<Name, AllocError>
+pub(crate) fn own_name(alloc: Global, word: &[u8]) -> Result<Name, AllocError>
     ensures { IfOk result (λ name. name ≡ own_name word.now) }
 {
     match normal(alloc, after_slash(word)) {

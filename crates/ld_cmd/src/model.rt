@@ -9,7 +9,8 @@ ghost use Rattle.ld_engine.specs.Loading.{load, main_of};
 ghost use Rattle.ld_report.specs.Entries.{fault_text};
 ghost use Rattle.ld_words.specs.Shown.{options_shown};
 ghost use Rattle.ld_cmd.specs.Made.{Gives, Makes};
-ghost use Rattle.ld_cmd.specs.Output.{Output, file_bytes, limits_of, loaded_by, main_output, model_output, queried_output, shown_text};
+ghost use Rattle.ld_cmd.specs.Output.{file_bytes, limits_of, loaded_by, main_output, model_output, queried_output};
+ghost use Rattle.ld_cmd.specs.Written.{Output, shown_text};
 ghost use Rattle.ld_cmd.specs.Querying.{answer_queried};
 
 use crate::answer::{Shown, print_answer};
@@ -34,7 +35,7 @@ const TEXTS: u32 = 65_535;
 // The most that their texts may weigh, by the bytes of their lines and 32 more for each line.
 const TOTAL_WEIGHT: u64 = 268_435_456;
 
-fn limits_of(options: &Options) -> Limits
+pub(crate) fn limits_of(options: &Options) -> Limits
     ensures { result ≡ limits_of (options_shown options.now) }
 {
     Limits {
@@ -65,19 +66,28 @@ pub(crate) fn show_model<S: Shelf>(
     ensures same { S.files shelf.new ≡ S.files shelf.old }
     ensures never_falls { S.faults shelf.old ≤ S.faults shelf.new }
 {
-    let mut workspace = match Workspace::open(alloc, limits_of(options)) {
-        Ok(workspace) => workspace,
-        Err(OpenError::BadLimit(_)) => unreachable!(),
-        Err(OpenError::Memory) => return Err(Stop::Memory),
-    };
+    let mut workspace = open_workspace(alloc, options)?;
     match load_model(alloc, &mut workspace, own, bytes) {
         Ok(main) => show_main(alloc, what, options, &mut workspace, &main, table, shelf),
         Err(stop) => Err(stop),
     }
 }
 
+// A workspace that knows nothing.
+pub(crate) fn open_workspace(alloc: Global, options: &Options) -> Result<Workspace, AllocError>
+    requires bounds { bad_limit (limits_of (options_shown options.now)) ≡ None }
+    ensures limits { IfOk result (λ workspace. workspace.limits ≡ limits_of (options_shown options.now)) }
+    ensures nothing_known { IfOk result (λ workspace. workspace.texts.known ≡ []) }
+{
+    match Workspace::open(alloc, limits_of(options)) {
+        Ok(workspace) => Ok(workspace),
+        Err(OpenError::BadLimit(_)) => unreachable!(),
+        Err(OpenError::Memory) => Err(AllocError),
+    }
+}
+
 // Makes the texts of a model's file known, and gives its main model.
-fn load_model(
+pub(crate) fn load_model(
     alloc: Global,
     workspace: &mut Workspace,
     own: &Name,
@@ -153,7 +163,7 @@ fn show_answer(
     }
 }
 
-fn fault_line(alloc: Global, texts: &Texts, fault: &Fault) -> Result<Vec<u8>, AllocError>
+pub(crate) fn fault_line(alloc: Global, texts: &Texts, fault: &Fault) -> Result<Vec<u8>, AllocError>
     ensures { IfOk result (λ text. text.items ≡ fault_text texts.now.known fault.now) }
 {
     let mut text = Vec::new(alloc);

@@ -2,13 +2,16 @@
 ghost use Rattle.std.specs.Prelude.{◌≡◌, ◌≤◌, Err, IfOk, IfSome, length};
 ghost use Rattle.ld_io.specs.Faults.{HasRisen};
 ghost use Rattle.ld_engine.specs.declared.asking.AnswerError.TheVariants.{ReadFault};
+ghost use Rattle.ld_cmd.specs.Playing.{edit_step};
 ghost use Rattle.ld_cmd.specs.Querying.{Queries, answer_queried};
+ghost use Rattle.ld_cmd.specs.Replying.{edit_given};
 
 use ld_colour::Colour;
-use ld_engine::{Answer, AnswerError, Workspace, root_law};
+use ld_engine::{Answer, AnswerError, EditError, Workspace, root_law};
 use ld_entry::tint_law;
 use ld_io::Shelf;
 use ld_names::FileId;
+use ld_texts::Edit;
 
 // What the texts as they stand answer to a root in a colour.
 pub(crate) fn ask<S: Shelf>(
@@ -31,4 +34,20 @@ pub(crate) fn ask<S: Shelf>(
     // Its clauses say that no file is known twice.
     let _ = workspace.texts().known();
     result
+}
+
+// An edit of the texts as they stand.
+pub(crate) fn change<S: Shelf>(
+    workspace: &mut Workspace,
+    shelf: &mut S,
+    edit: &Edit,
+) -> Result<(), EditError>
+    ensures limits { workspace.new.limits ≡ workspace.old.limits }
+    ensures told { IfSome (S.files shelf.old) (λ files. IfSome (edit_given workspace.new.texts.known result)
+        (λ given. given ≡ edit_step workspace.old.limits files workspace.old.texts.known edit.now)) }
+    ensures cause { result ≡ Err EditError.ReadFault → HasRisen (S.faults shelf.old) (S.faults shelf.new) }
+    ensures same { S.files shelf.new ≡ S.files shelf.old }
+    ensures never_falls { S.faults shelf.old ≤ S.faults shelf.new }
+{
+    workspace.edit(shelf, edit)
 }

@@ -1,12 +1,15 @@
 ghost use Rattle.std.specs.Prelude.{◌≡◌, ◌≢◌, ◌≤◌, ◌∷◌, [], IfSome, None, Some, is_some, map, string_bytes};
 ghost use Rattle.ld_io.specs.Faults.{HasRisen};
-ghost use Rattle.ld_cmd.specs.Ending.{EndsAs, IsComplete, IsWhole, StandsInFront, Takes, TakesNothing, UsageIsExact};
+ghost use Rattle.ld_cmd.specs.Ending.{EndsAs, IsComplete, PutsOnce, StandsInFront, Takes, TakesNothing, UsageIsExact};
 ghost use Rattle.ld_cmd.specs.Output.{output, request_of, usage_line};
 
 use crate::made::Stop;
-use crate::make::make_output;
+use crate::make::make_work;
+use crate::put::put_last;
+use crate::replay::play;
+use crate::session::Work;
 use crate::status::Status;
-use ld_io::{PutError, Shelf, Sink};
+use ld_io::{Shelf, Sink};
 use std::alloc::Global;
 
 const USAGE: &[u8] =
@@ -34,7 +37,9 @@ pub fn run<S: Shelf, K: Sink>(alloc: Global, words: &[String], shelf: &mut S, ou
 
     ensures read_cause { result ≡ Status.ReadFault → HasRisen (S.faults shelf.old) (S.faults shelf.new) }
     ensures write_cause { result ≡ Status.WriteFault → HasRisen (K.faults out.old) (K.faults out.new) }
-    ensures nothing { IfSome (K.taken out.old) (λ before. TakesNothing result before (K.taken out.new)) }
+    // Nothing but a script's replies is taken where reading or memory stopped the run.
+    ensures nothing { PutsOnce (request_of (map string_bytes words.now)) → IfSome (K.taken out.old)
+        (λ before. TakesNothing result before (K.taken out.new)) }
     ensures in_front { IfSome (K.taken out.old) (λ before. StandsInFront before (K.taken out.new)) }
 
     ensures same_files { S.files shelf.new ≡ S.files shelf.old }
@@ -42,32 +47,13 @@ pub fn run<S: Shelf, K: Sink>(alloc: Global, words: &[String], shelf: &mut S, ou
     ensures shelf_faults { S.faults shelf.old ≤ S.faults shelf.new }
     ensures sink_faults { K.faults out.old ≤ K.faults out.new }
 {
-    match make_output(alloc, words, shelf) {
-        Ok(made) | Err(Stop::Decided(made)) => put_last(out, made.text.as_slice(), made.status),
+    match make_work(alloc, words, shelf) {
+        Ok(Work::Write(made)) | Err(Stop::Decided(made)) => {
+            put_last(out, made.text.as_slice(), made.status)
+        }
+        Ok(Work::Play(session)) => play(alloc, session, shelf, out),
         Err(Stop::Usage) => put_last(out, USAGE, Status::Usage),
         Err(Stop::ReadFault) => Status::ReadFault,
         Err(Stop::Memory) => Status::Memory,
-    }
-}
-
-// Puts the last piece, unless it is empty, and ends with this status.
-fn put_last<K: Sink>(out: &mut K, piece: &[u8], status: Status) -> Status
-    requires { IsWhole status }
-    ensures status { EndsAs result status }
-    ensures taken { IfSome (K.taken out.old) (λ before. Takes result (piece.now ∷ []) before (K.taken out.new)) }
-    ensures cause { result ≡ Status.WriteFault → HasRisen (K.faults out.old) (K.faults out.new) }
-    ensures never_read { result ≢ Status.ReadFault }
-    ensures nothing { IfSome (K.taken out.old) (λ before. TakesNothing result before (K.taken out.new)) }
-    ensures in_front { IfSome (K.taken out.old) (λ before. StandsInFront before (K.taken out.new)) }
-    ensures told_same { is_some (K.taken out.new) ≡ is_some (K.taken out.old) }
-    ensures never_falls { K.faults out.old ≤ K.faults out.new }
-{
-    if piece.is_empty() {
-        return status;
-    }
-    match out.put(piece) {
-        Ok(()) => status,
-        Err(PutError::Failed) => Status::WriteFault,
-        Err(PutError::Memory) => Status::Memory,
     }
 }

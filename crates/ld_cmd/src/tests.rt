@@ -1,7 +1,8 @@
 //! Worked runs of the command, over files in memory.
 ghost use Rattle.std.specs.Prelude.{◌≡◌, [], ◌∷◌, None, codes};
 ghost use Rattle.ld_cmd.specs.Folders.{model_folder};
-ghost use Rattle.ld_cmd.specs.Output.{one_piece, output, usage};
+ghost use Rattle.ld_cmd.specs.Output.{output, usage};
+ghost use Rattle.ld_cmd.specs.Written.{one_piece};
 ghost use Rattle.ld_cmd.specs.declared.status.Status.TheVariants.{Input};
 
 mod cases;
@@ -90,7 +91,7 @@ gen 0
 help
 inline m.ldr
 check m.ldr
-replay m.ldr s.txt";
+replay m.ldr";
 
 const USAGE: &str =
     "usage: ldraw (faces|steps|parts|inline|check) FILE | replay FILE SCRIPT | gen N\n";
@@ -140,6 +141,7 @@ fn own_names_of_models(rt: HostRuntime) -> Result<(), Fail> {
 fn outside(alloc: Global, line: &str, model: &str, fails: (u64, u64, u64)) -> Result<String, Fail> {
     let mut shelf = MemShelf::new(alloc);
     shelf.add(Place::Work, b"m.ldr", model.as_bytes())?;
+    shelf.add(Place::Work, b"s.txt", SCRIPT.as_bytes())?;
     shelf.add(Place::Parts, b"x.dat", b"")?;
     shelf.fail(fails.0)?;
     let mut sink = MemSink::new(alloc);
@@ -186,6 +188,26 @@ fn the_outside_fails(rt: HostRuntime) -> Result<(), Fail> {
     ] {
         let given = outside(rt.alloc(), line, model, fails)?;
         assert_eq!(rt; given.as_str(), wanted, "{line}");
+    }
+    Ok(())
+}
+
+const SCRIPT: &str = "new\tmodel\tm.ldr\nfaces\nparts";
+
+const REPLIES: &str = "0 4 3 refused filethere\npart 16 - parts/x.dat at model/m.ldr:1\ndone\n1 16 parts/x.dat\ndone\n";
+
+// The replies before a fault stand, each whole.
+#[test]
+fn the_outside_fails_amid_replies(rt: HostRuntime) -> Result<(), Fail> {
+    for (fails, wanted) in [
+        ((0, 0, 0), REPLIES),
+        ((2, 0, 0), "4 2 0 "),
+        ((4, 0, 0), "4 4 1 refused filethere\n"),
+        ((0, 1, 3), "5 2 1 ref"),
+        ((0, 2, 0), "5 4 2 refused filethere\n"),
+    ] {
+        let given = outside(rt.alloc(), "replay m.ldr s.txt", REFERS, fails)?;
+        assert_eq!(rt; given.as_str(), wanted);
     }
     Ok(())
 }

@@ -6,8 +6,11 @@ pub mod Stepped
 pub mod Expanded
 pub mod Numbered
 pub mod Learned
+pub mod Wanted
 pub mod Roots
 pub mod Loaded
+pub mod Mains
 pub mod Settled
 pub mod Standing
+pub mod Edits
 pub mod Types

@@ -22,10 +22,10 @@ use Rattle.ld_texts.specs.declared.change.Over.{Over}
 use Rattle.ld_engine.specs.Loading.{AreNew, Blocks, load, load_refused, LoadsBehind, main_of, unless_passed}
 use Rattle.ld_engine.specs.declared.limits.Limits.{Limits}
 
-abbrev ok : Known → Result Known Over
+abbrev pub ok : Known → Result Known Over
 ok known = Ok known
 
-ok-same : {a b : Known} → ok a ≡ ok b → a ≡ b
+pub ok-same : {a b : Known} → ok a ≡ ok b → a ≡ b
 ok-same is = cc
 
 -- the texts among a block and what stands behind it

@@ -1,5 +1,5 @@
 -- Learning leaves the texts as they stand.
-use Rattle.std.proofs.Common.{◌≡◌, ◌-◌, ◌++◌, ℕ, zero, suc, Bool, true, false, cond, List, [], ◌∷◌, length, Option, Some, None, Result, Ok, Err, refl, ap, sym, subst, ◌∙◌}
+use Rattle.std.proofs.Common.{◌≡◌, ◌-◌, ◌++◌, ℕ, zero, suc, Bool, true, false, cond, List, [], ◌∷◌, length, Option, Some, None, Result, Ok, Err, refl, ap, sym, ◌∙◌}
 use Rattle.std.specs.Prelude.{nat_lt, option_map, slice_get, ⊤}
 use Rattle.ld_io.specs.Shelf.{Files}
 use Rattle.ld_names.specs.Finding.{FindsExactly, LearningStays}
@@ -16,7 +16,7 @@ use Rattle.ld_texts.specs.Reach.{file_reaches, going_on, line_reaches, lines_in,
 use Rattle.ld_texts.specs.declared.change.Over.{Over}
 use Rattle.ld_texts.specs.declared.change.Over.TheVariants.{Files as TooMany}
 use Rattle.ld_engine.specs.Laws.{LearningStands}
-use Rattle.ld_engine.specs.Learning.{bytes_on, fetched, Full, learn, learning, learning_on, Learnt, learnt, Stop, stopped, text_by, text_on, TooBig, unless_over}
+use Rattle.ld_engine.specs.Learning.{bytes_on, fetched, Full, learn, learning_by, learning_on, Learnt, learnt, Stop, stopped, text_by, text_on, TooBig, unless_over, wanted_for, Wanting}
 use Rattle.ld_engine.specs.declared.limits.Limits.{Limits}
 
 -- ---- What is wanted is not known.
@@ -73,8 +73,8 @@ module _ (known : Known) where
   wanted-is file (Wants other) is new = let same : other ≡ file = cc in ap (known_map known) (sym same) ∙ new
   wanted-is file (Reaches texts) is new = absurd (cc)
 
-wanted-new : NumbersAgree → FindsExactly → (known : Known) (root file : FileId) → wanted known root ≡ Some file → known_map known file ≡ None
-wanted-new numbers finds known root file is = wanted-is known file (reach known root) is (reach-new known finds numbers root)
+wanted-new : NumbersAgree → FindsExactly → (root : FileId) (known : Known) (file : FileId) → wanted known root ≡ Some file → known_map known file ≡ None
+wanted-new numbers finds root known file is = wanted-is known file (reach known root) is (reach-new known finds numbers root)
 
 -- ---- What is fetched is what the shelf has.
 
@@ -94,38 +94,45 @@ fetched-is limits known file (Some bytes) text is =
 
 -- ---- So learning leaves the texts as they stand.
 
-module _ (numbers : NumbersAgree) (finds : FindsExactly) (stays : LearningStays) (limits : Limits) (files : Files) (root : FileId) where
-  abbrev Stands : Known → Known → Type 0
-  Stands old new = (file : FileId) → standing (known_map new) (text_on files) file ≡ standing (known_map old) (text_on files) file
+-- what is wanted is not known
+abbrev pub WantsNew : Wanting → Type 0
+WantsNew wants = (known : Known) (file : FileId) → wants known ≡ Some file → known_map known file ≡ None
 
-  step-stands : (further : Known → Learnt) → ((known : Known) → Stands known (further known).known) → (known : Known) (wants : FileId) → wanted known root ≡ Some wants → (result : Result Text Stop) → fetched limits known wants (bytes_on files wants) ≡ result → Stands known (learning_on further known wants result).known
-  step-stands further all known wants is (Err stop) told file = refl
-  step-stands further all known wants is (Ok text) told file =
-      let same : text ≡ text_on files wants = fetched-is limits known wants (bytes_on files wants) text told in
-      all (known ++ (wants, text) ∷ []) file
-      ∙ ap (λ t. standing (known_map (known ++ (wants, t) ∷ [])) (text_on files) file) same
-      ∙ stays known (text_on files) wants file (wanted-new numbers finds known root wants is)
+module _ (stays : LearningStays) (limits : Limits) (files : Files) (wants : Wanting) (new : WantsNew wants) where
+  abbrev Stands : Known → Known → Type 0
+  Stands old now = (file : FileId) → standing (known_map now) (text_on files) file ≡ standing (known_map old) (text_on files) file
+
+  step-stands : (further : Known → Learnt) → ((known : Known) → Stands known (further known).known) → (known : Known) (next : FileId) → wants known ≡ Some next → (result : Result Text Stop) → fetched limits known next (bytes_on files next) ≡ result → Stands known (learning_on further known next result).known
+  step-stands further all known next is (Err stop) told file = refl
+  step-stands further all known next is (Ok text) told file =
+      let same : text ≡ text_on files next = fetched-is limits known next (bytes_on files next) text told in
+      all (known ++ (next, text) ∷ []) file
+      ∙ ap (λ t. standing (known_map (known ++ (next, t) ∷ [])) (text_on files) file) same
+      ∙ stays known (text_on files) next file (new known next is)
 
   -- what the file that is wanted makes of it
   abbrev at_limit : Known → Option FileId → Learnt
-  at_limit known wants = elim wants [ None ↦ learnt known | Some file ↦ stopped known (Full (TooMany (length known))) ]
+  at_limit known next = elim next [ None ↦ learnt known | Some file ↦ stopped known (Full (TooMany (length known))) ]
 
   abbrev below_limit : (Known → Learnt) → Known → Option FileId → Learnt
-  below_limit further known wants =
-      elim wants [ None ↦ learnt known | Some file ↦ learning_on further known file (fetched limits known file (bytes_on files file)) ]
+  below_limit further known next =
+      elim next [ None ↦ learnt known | Some file ↦ learning_on further known file (fetched limits known file (bytes_on files file)) ]
 
-  learn-stands : (left : ℕ) (known : Known) → Stands known (learn left limits files root known).known
-  learn-stands zero known = by (wanted known root)
+  learn-stands : (left : ℕ) (known : Known) → Stands known (learn left limits files wants known).known
+  learn-stands zero known = by (wants known)
     where
-      by : (wants : Option FileId) → Stands known (at_limit known wants).known
+      by : (next : Option FileId) → Stands known (at_limit known next).known
       by None file = refl
-      by (Some wants) file = refl
-  learn-stands (suc left) known = by (learn-stands left) (wanted known root) refl
+      by (Some next) file = refl
+  learn-stands (suc left) known = by (learn-stands left) (wants known) refl
     where
-      by : ((known : Known) → Stands known (learn left limits files root known).known) → (wants : Option FileId) → wanted known root ≡ wants → Stands known (below_limit (learn left limits files root) known wants).known
+      by : ((known : Known) → Stands known (learn left limits files wants known).known) → (next : Option FileId) → wants known ≡ next → Stands known (below_limit (learn left limits files wants) known next).known
       by further None is file = refl
-      by further (Some wants) is file = step-stands (learn left limits files root) further known wants is (fetched limits known wants (bytes_on files wants)) refl file
+      by further (Some next) is file = step-stands (learn left limits files wants) further known next is (fetched limits known next (bytes_on files next)) refl file
+
+  pub learning_by-stands : (known : Known) → Stands known (learning_by limits files wants known).known
+  unfolding learning_by
+  learning_by-stands known = learn-stands (limits.texts - length known) known
 
 pub learning-stands : NumbersAgree → FindsExactly → LearningStays → LearningStands
-unfolding learning
-learning-stands numbers finds stays limits files root known = learn-stands numbers finds stays limits files root (limits.texts - length known) known
+learning-stands numbers finds stays limits files root known = learning_by-stands stays limits files (wanted_for root) (wanted-new numbers finds root) known

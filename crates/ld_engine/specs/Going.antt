@@ -1,6 +1,7 @@
 -- How far a root's references are gone through, and what is left of the going.
-use Rattle.std.specs.Prelude.{◌≡◌, ◌++◌, ◌-◌, ◌<◌, ◌==◌, ◌||◌, Bool, false, ℕ, suc, List, [], ◌∷◌, length, drop, slice_get, true, nat_eq, Option, Some, None}
+use Rattle.std.specs.Prelude.{◌≡◌, ◌++◌, ◌-◌, ◌<◌, ◌==◌, ◌&&◌, ◌||◌, Bool, false, ℕ, suc, List, [], ◌∷◌, length, drop, slice_get, true, nat_eq, Option, Some, None}
 use Rattle.std.specs.List.{list_any}
+use Rattle.ld_names.specs.Normal.{is_blank}
 use Rattle.ld_names.specs.Standing.{Known, Text, find, known_map}
 use Rattle.ld_names.specs.declared.file.FileId.{FileId}
 use Rattle.ld_names.specs.declared.file.Folder.{Folder}
@@ -65,3 +66,9 @@ abbrev pub is_drawn_type : List ℕ → Bool
 is_drawn_type [] = false
 is_drawn_type (byte ∷ []) = byte == 50 || byte == 51 || byte == 52 || byte == 53
 is_drawn_type (byte ∷ more ∷ bytes) = false
+
+-- such a field stands first, and a blank behind it
+abbrev pub begins_drawn : List ℕ → Bool
+begins_drawn [] = false
+begins_drawn (byte ∷ []) = false
+begins_drawn (byte ∷ next ∷ bytes) = is_drawn_type (byte ∷ []) && is_blank next

@@ -1,4 +1,4 @@
--- What keeping and learning one file, and then all that a root wants, leave.
+-- What keeping and learning one file, and then all that is wanted, leave.
 use Rattle.std.specs.Prelude.{◌≡◌, ◌++◌, ◌<◌, ℕ, [], ◌∷◌, length, Some, None, IsSome, Result, Ok, Err, ⊤}
 use Rattle.ld_io.specs.Shelf.{Files}
 use Rattle.ld_names.specs.Standing.{Known, Text}
@@ -11,7 +11,7 @@ use Rattle.ld_texts.specs.declared.change.LearnError.{LearnError}
 use Rattle.ld_texts.specs.declared.change.LearnError.TheVariants.{Full as Refused, Memory as NoMemory}
 use Rattle.ld_texts.specs.declared.change.Over.{Over}
 use Rattle.ld_texts.specs.declared.change.Over.TheVariants.{Files as TooMany, Weight}
-use Rattle.ld_engine.specs.Learning.{TooBig as BigFile, Full as Passed, learning, learnt, stopped}
+use Rattle.ld_engine.specs.Learning.{TooBig as BigFile, Full as Passed, Wanting, learning_by, learnt, stopped}
 use Rattle.ld_engine.specs.declared.fetching.FetchStop.{FetchStop}
 use Rattle.ld_engine.specs.declared.fetching.FetchStop.TheVariants as fetch
 use Rattle.ld_engine.specs.declared.learning.LearnStop.{LearnStop}
@@ -59,30 +59,30 @@ StopsAt limits known file (TooBig big) = (big ≡ file) × (length known < limit
 StopsAt limits known file (Full over) = IsLimit limits known over
 StopsAt limits known file Memory = ⊤
 
--- Learning for a root, by the files of a shelf, comes to what it comes to from here on; or it stops here.
-abbrev pub Tells : Limits → Files → FileId → Known → Known → Result TextId LearnStop → Type 0
-Tells limits files root old new (Ok id) = learning limits files root old ≡ learning limits files root new
-Tells limits files root old new (Err (TooBig file)) = learning limits files root old ≡ stopped new (BigFile file)
-Tells limits files root old new (Err (Full over)) = learning limits files root old ≡ stopped new (Passed over)
-Tells limits files root old new (Err ReadFault) = learning limits files root old ≡ learning limits files root new
-Tells limits files root old new (Err Memory) = learning limits files root old ≡ learning limits files root new
+-- Learning, by the files of a shelf, comes to what it comes to from here on; or it stops here.
+abbrev pub Tells : Limits → Files → Wanting → Known → Known → Result TextId LearnStop → Type 0
+Tells limits files wants old new (Ok id) = learning_by limits files wants old ≡ learning_by limits files wants new
+Tells limits files wants old new (Err (TooBig file)) = learning_by limits files wants old ≡ stopped new (BigFile file)
+Tells limits files wants old new (Err (Full over)) = learning_by limits files wants old ≡ stopped new (Passed over)
+Tells limits files wants old new (Err ReadFault) = learning_by limits files wants old ≡ learning_by limits files wants new
+Tells limits files wants old new (Err Memory) = learning_by limits files wants old ≡ learning_by limits files wants new
 
 -- a file is still wanted, and it is the one at which learning stopped
-abbrev pub StopsFor : Limits → FileId → Known → LearnStop → Type 0
-StopsFor limits root known ReadFault = IsSome (wanted known root) × (length known < limits.texts)
-StopsFor limits root known (TooBig file) = (wanted known root ≡ Some file) × (length known < limits.texts)
-StopsFor limits root known (Full over) = IsSome (wanted known root) × IsLimit limits known over
-StopsFor limits root known Memory = ⊤
+abbrev pub StopsFor : Limits → Wanting → Known → LearnStop → Type 0
+StopsFor limits wants known ReadFault = IsSome (wants known) × (length known < limits.texts)
+StopsFor limits wants known (TooBig file) = (wants known ≡ Some file) × (length known < limits.texts)
+StopsFor limits wants known (Full over) = IsSome (wants known) × IsLimit limits known over
+StopsFor limits wants known Memory = ⊤
 
 -- all that the root wants is learnt, and the root has this number
 pub record IsLearntFor (root : FileId) (known : Known) (id : ℕ) : Type 0 where
   pub number : id_of known root ≡ Some id
   pub nothing_wanted : wanted known root ≡ None
 
--- what learning for a root tells of the files of a shelf
-abbrev pub ToldFor : Limits → Files → FileId → Known → Known → Result TextId LearnStop → Type 0
-ToldFor limits files root old new (Ok id) = learning limits files root old ≡ learnt new
-ToldFor limits files root old new (Err (TooBig file)) = learning limits files root old ≡ stopped new (BigFile file)
-ToldFor limits files root old new (Err (Full over)) = learning limits files root old ≡ stopped new (Passed over)
-ToldFor limits files root old new (Err ReadFault) = learning limits files root old ≡ learning limits files root new
-ToldFor limits files root old new (Err Memory) = learning limits files root old ≡ learning limits files root new
+-- what learning tells of the files of a shelf: it has ended, or where it stopped
+abbrev pub ToldFor : {A : Type 0} → Limits → Files → Wanting → Known → Known → Result A LearnStop → Type 0
+ToldFor limits files wants old new (Ok done) = learning_by limits files wants old ≡ learnt new
+ToldFor limits files wants old new (Err (TooBig file)) = learning_by limits files wants old ≡ stopped new (BigFile file)
+ToldFor limits files wants old new (Err (Full over)) = learning_by limits files wants old ≡ stopped new (Passed over)
+ToldFor limits files wants old new (Err ReadFault) = learning_by limits files wants old ≡ learning_by limits files wants new
+ToldFor limits files wants old new (Err Memory) = learning_by limits files wants old ≡ learning_by limits files wants new

@@ -73,22 +73,36 @@ abbrev pub learning_on : (Known → Learnt) → Known → FileId → Result Text
 learning_on further known file (Ok text) = further (known ++ (file, text) ∷ [])
 learning_on further known file (Err stop) = stopped known stop
 
--- The files that a root wants are learnt one after another, while there may be so many more: the limit on their number
--- is looked at before a file is fetched.
-abbrev pub learn : ℕ → Limits → Files → FileId → Known → Learnt
-learn zero limits files root known =
-    elim (wanted known root) [ None ↦ learnt known | Some file ↦ stopped known (Full (TooMany (length known))) ]
-learn (suc left) limits files root known =
-    elim (wanted known root) [ None ↦ learnt known | Some file ↦ learning_on (learn left limits files root) known file (fetched limits known file (bytes_on files file)) ]
+-- which file is wanted next, by what is known
+abbrev pub Wanting : Type 0
+Wanting = Known → Option FileId
 
-unfoldable pub learning : Limits → Files → FileId → Known → Learnt
-learning limits files root known = learn (limits.texts - length known) limits files root known
+-- The files that are wanted are learnt one after another, while there may be so many more: the limit on their number is
+-- looked at before a file is fetched.
+abbrev pub learn : ℕ → Limits → Files → Wanting → Known → Learnt
+learn zero limits files wants known =
+    elim (wants known) [ None ↦ learnt known | Some file ↦ stopped known (Full (TooMany (length known))) ]
+learn (suc left) limits files wants known =
+    elim (wants known) [ None ↦ learnt known | Some file ↦ learning_on (learn left limits files wants) known file (fetched limits known file (bytes_on files file)) ]
 
--- files became known one after another, each when it was wanted for the root
-abbrev pub AreWanted : FileId → Known → Known → Type 0
-AreWanted root known [] = ⊤
-AreWanted root known (entry ∷ entries) = (wanted known root ≡ Some entry.0) × AreWanted root (known ++ entry ∷ []) entries
+unfoldable pub learning_by : Limits → Files → Wanting → Known → Learnt
+learning_by limits files wants known = learn (limits.texts - length known) limits files wants known
+
+-- what a root wants
+abbrev pub wanted_for : FileId → Wanting
+wanted_for root known = wanted known root
+
+abbrev pub learning : Limits → Files → FileId → Known → Learnt
+learning limits files root known = learning_by limits files (wanted_for root) known
+
+-- files became known one after another, each when it was wanted
+abbrev pub AreWanted : Wanting → Known → Known → Type 0
+AreWanted wants known [] = ⊤
+AreWanted wants known (entry ∷ entries) = (wants known ≡ Some entry.0) × AreWanted wants (known ++ entry ∷ []) entries
 
 -- over any shelf: what is known has grown by such files
+abbrev pub LearnsBy : Wanting → Known → Known → Type 0
+LearnsBy wants old new = (entries : Known) × (new ≡ old ++ entries) × AreWanted wants old entries
+
 abbrev pub LearnsFor : FileId → Known → Known → Type 0
-LearnsFor root old new = (entries : Known) × (new ≡ old ++ entries) × AreWanted root old entries
+LearnsFor root old new = LearnsBy (wanted_for root) old new

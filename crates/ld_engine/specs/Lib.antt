@@ -1,4 +1,5 @@
 pub mod Asking
+pub mod Editing
 pub mod Fetching
 pub mod Found
 pub mod Gathering

@@ -6,12 +6,12 @@ ghost use Rattle.ld_texts.specs.Known.{lines_at};
 ghost use Rattle.ld_texts.specs.Reach.{Reaches, lines_in};
 ghost use Rattle.ld_names.specs.Standing.{Known};
 ghost use Rattle.ld_names.specs.declared.file.Folder.{Folder};
-ghost use Rattle.ld_engine.specs.Going.{Goes, Grows, IsInside, Passed, Steps, begun, file_rest, is_drawn_type, left, line_step, name_step};
+ghost use Rattle.ld_engine.specs.Going.{Goes, Grows, IsInside, Passed, Steps, begins_drawn, begun, file_rest, is_drawn_type, left, line_step, name_step};
 
 use crate::find::{Sought, seek};
 use crate::seen::next_line;
 use indexmap::IndexSet;
-use ld_line::{Line, read_line, split_field};
+use ld_line::{Line, fields_law, read_line, split_field};
 use ld_names::{FileId, Folder, Name, TextId};
 use ld_texts::{Texts, learning_law, number_law};
 use std::alloc::{AllocError, Global};
@@ -199,10 +199,21 @@ impl Going {
 fn is_drawn(line: &[u8]) -> bool
     ensures { result ≡ true → (known : Known) (from : Folder) (texts : List ℕ) → line_step from line.now texts known ≡ Reaches texts }
 {
+    // Told at once where the type stands first, as it mostly does.
+    if begins_drawn(line) {
+        fields_law();
+        return true;
+    }
     match split_field(line) {
         Some((kind, _)) => is_drawn_type(kind),
         None => false,
     }
+}
+
+fn begins_drawn(line: &[u8]) -> bool
+    ensures { result ≡ begins_drawn line.now }
+{
+    matches!(line, [b'2' | b'3' | b'4' | b'5', b' ' | b'\t', ..])
 }
 
 fn is_drawn_type(kind: &[u8]) -> bool

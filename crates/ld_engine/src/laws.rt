@@ -1,7 +1,8 @@
-ghost use Rattle.ld_engine.specs.Laws.{LearningStands, StandsForRoots, StepsOfAnswers};
+ghost use Rattle.ld_engine.specs.Laws.{LearningStands, MainIsThere, StandsForRoots, StepsOfAnswers};
 
 use ld_entry::standing_law;
-use ld_names::{learning_law, lookup_law};
+use ld_mpd::block_laws;
+use ld_names::{file_laws, learning_law, lookup_law};
 use ld_steps::part_law;
 use ld_texts::number_law;
 
@@ -28,5 +29,15 @@ pub fn learnt_law()
 {
     number_law();
     lookup_law();
+    learning_law();
+}
+
+/// A file has a main model. Once the file is loaded it is there, and it stays there, whatever is
+/// learnt.
+pub fn main_law()
+    ensures { MainIsThere }
+{
+    block_laws();
+    file_laws();
     learning_law();
 }

@@ -1,11 +1,9 @@
 // Files are learnt, each when a root wants it.
 ghost use Rattle.std.specs.Prelude.{◌≡◌, ◌≤◌, ◌<◌, Err, IfErr, IfOk, IfSome, None, OnOk, Some, length, true};
 ghost use Rattle.ld_io.specs.Faults.{HasRisen};
-ghost use Rattle.ld_names.specs.declared.file.FileId.{FileId};
 ghost use Rattle.ld_texts.specs.Known.{id_of};
-ghost use Rattle.ld_texts.specs.Reach.{wanted};
 ghost use Rattle.ld_engine.specs.Keeping.{IsLearntFor, Keeps, LearnsFile, StopsAt, StopsFor, Tells, ToldFor, refused_by, stopped_at};
-ghost use Rattle.ld_engine.specs.Learning.{LearnsFor, is_clean};
+ghost use Rattle.ld_engine.specs.Learning.{LearnsFor, Wanting, is_clean, wanted_for};
 
 use crate::fetching::{FetchStop, fetch_text};
 use crate::going::Going;
@@ -45,8 +43,8 @@ impl Workspace {
         ensures limits { self.new.limits ≡ self.old.limits }
         ensures learns { LearnsFor root.now self.old.texts.known self.new.texts.known }
         ensures learnt { IfOk result (λ id. IsLearntFor root.now self.new.texts.known id.0) }
-        ensures stops { IfErr result (λ stop. StopsFor self.old.limits root.now self.new.texts.known stop) }
-        ensures told { IfSome (S.files shelf.old) (λ files. ToldFor self.old.limits files root.now self.old.texts.known self.new.texts.known result) }
+        ensures stops { IfErr result (λ stop. StopsFor self.old.limits (wanted_for root.now) self.new.texts.known stop) }
+        ensures told { IfSome (S.files shelf.old) (λ files. ToldFor self.old.limits files (wanted_for root.now) self.old.texts.known self.new.texts.known result) }
         ensures cause { result ≡ Err LearnStop.ReadFault → HasRisen (S.faults shelf.old) (S.faults shelf.new) }
         ensures same { S.files shelf.new ≡ S.files shelf.old }
         ensures never_falls { S.faults shelf.old ≤ S.faults shelf.new }
@@ -68,8 +66,8 @@ impl Workspace {
         ensures limits { self.new.limits ≡ self.old.limits }
         ensures learns { LearnsFor root.now self.old.texts.known self.new.texts.known }
         ensures known { IfOk result (λ id. id_of self.new.texts.known root.now ≡ Some id.0) }
-        ensures stops { IfErr result (λ stop. StopsFor self.old.limits root.now self.new.texts.known stop) }
-        ensures told { IfSome (S.files shelf.old) (λ files. Tells self.old.limits files root.now self.old.texts.known self.new.texts.known result) }
+        ensures stops { IfErr result (λ stop. StopsFor self.old.limits (wanted_for root.now) self.new.texts.known stop) }
+        ensures told { IfSome (S.files shelf.old) (λ files. Tells self.old.limits files (wanted_for root.now) self.old.texts.known self.new.texts.known result) }
         ensures cause { result ≡ Err LearnStop.ReadFault → HasRisen (S.faults shelf.old) (S.faults shelf.new) }
         ensures same { S.files shelf.new ≡ S.files shelf.old }
         ensures never_falls { S.faults shelf.old ≤ S.faults shelf.new }
@@ -77,8 +75,7 @@ impl Workspace {
         if let Some(id) = self.texts().id(root) {
             return Ok(id);
         }
-        let file = root.copy(self.alloc)?;
-        self.learn_file(shelf, file)
+        self.learn_copy(shelf, root)
     }
 
     // Keeps a file with its text, or as absent.
@@ -94,6 +91,27 @@ impl Workspace {
         }
     }
 
+    // Learns a file that is wanted, by a copy of what names it.
+    pub(crate) fn learn_copy<S: Shelf>(
+        &mut self,
+        shelf: &mut S,
+        file: &FileId,
+    ) -> Result<TextId, LearnStop>
+        requires unknown { id_of self.old.texts.known file.now ≡ None }
+        ensures limits { self.new.limits ≡ self.old.limits }
+        ensures learns { LearnsFile self.old.texts.known self.new.texts.known file.now result }
+        ensures room { OnOk result (length self.old.texts.known < self.old.limits.texts) }
+        ensures stops { IfErr result (λ stop. StopsAt self.old.limits self.old.texts.known file.now stop) }
+        ensures told { IfSome (S.files shelf.old) (λ files. (wants : Wanting) → wants self.old.texts.known ≡ Some file.now →
+            Tells self.old.limits files wants self.old.texts.known self.new.texts.known result) }
+        ensures cause { result ≡ Err LearnStop.ReadFault → HasRisen (S.faults shelf.old) (S.faults shelf.new) }
+        ensures same { S.files shelf.new ≡ S.files shelf.old }
+        ensures never_falls { S.faults shelf.old ≤ S.faults shelf.new }
+    {
+        let file = file.copy(self.alloc)?;
+        self.learn_file(shelf, file)
+    }
+
     // Learns a file that is wanted.
     fn learn_file<S: Shelf>(&mut self, shelf: &mut S, file: FileId) -> Result<TextId, LearnStop>
         requires unknown { id_of self.old.texts.known file ≡ None }
@@ -101,8 +119,8 @@ impl Workspace {
         ensures learns { LearnsFile self.old.texts.known self.new.texts.known file result }
         ensures room { OnOk result (length self.old.texts.known < self.old.limits.texts) }
         ensures stops { IfErr result (λ stop. StopsAt self.old.limits self.old.texts.known file stop) }
-        ensures told { IfSome (S.files shelf.old) (λ files. (root : FileId) → wanted self.old.texts.known root ≡ Some file →
-            Tells self.old.limits files root self.old.texts.known self.new.texts.known result) }
+        ensures told { IfSome (S.files shelf.old) (λ files. (wants : Wanting) → wants self.old.texts.known ≡ Some file →
+            Tells self.old.limits files wants self.old.texts.known self.new.texts.known result) }
         ensures cause { result ≡ Err LearnStop.ReadFault → HasRisen (S.faults shelf.old) (S.faults shelf.new) }
         ensures same { S.files shelf.new ≡ S.files shelf.old }
         ensures never_falls { S.faults shelf.old ≤ S.faults shelf.new }

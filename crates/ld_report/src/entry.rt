@@ -16,6 +16,9 @@ use ld_num::Point;
 use ld_texts::Texts;
 use std::alloc::AllocError;
 
+// About what an entry's line takes.
+const LINE_BYTES: usize = 96;
+
 // Named where entries are moved: the prover looks for the types inside them among those named.
 pub(crate) const NO_POINTS: [Point; 0] = [];
 
@@ -70,6 +73,7 @@ pub(crate) fn append_entries(
     ensures ok { OnOk result (into.new.items ≡ into.old.items ++ entries_text texts.now.known (counting table.now) entries.now) }
     ensures keeps { Extends into.old.items into.new.items }
 {
+    into.reserve(entries.len().saturating_mul(LINE_BYTES))?;
     for entry in entries {
         append_entry(texts, table, entry, into)?;
     }
@@ -109,7 +113,7 @@ fn append_entry(
             colour,
             source,
         } => {
-            print_head(b"part", table, colour, into)?;
+            print_head(b"part ", table, colour, into)?;
             print_part(texts, file, into)?;
             end_line(texts, source, into)?;
             Ok(())
@@ -151,13 +155,13 @@ fn print_points(points: &[Point], into: &mut Vec<u8>) -> Result<(), AllocError>
 }
 
 fn kind_word(kind: Kind) -> &'static [u8]
-    ensures { result.now ≡ kind_text kind }
+    ensures { result.now ≡ kind_text kind ++ codes " " }
 {
     match kind {
-        Kind::Line2 => b"line",
-        Kind::Tri => b"tri",
-        Kind::Quad => b"quad",
-        Kind::Opt => b"opt",
+        Kind::Line2 => b"line ",
+        Kind::Tri => b"tri ",
+        Kind::Quad => b"quad ",
+        Kind::Opt => b"opt ",
     }
 }
 

@@ -49,7 +49,7 @@ fn print_rgb(rgb: Option<u32>, into: &mut Vec<u8>) -> Result<(), AllocError>
     }
 }
 
-// The word that begins an entry's line, its colour, and the colour's red, green and blue.
+// The word that begins an entry's line, with the space behind it, its colour, and the colour's red, green and blue.
 #[tactic(auto, using(crate::proofs::Extending::extending))]
 pub(crate) fn print_head(
     word: &[u8],
@@ -57,11 +57,10 @@ pub(crate) fn print_head(
     colour: Colour,
     into: &mut Vec<u8>,
 ) -> Result<(), AllocError>
-    ensures ok { OnOk result (into.new.items ≡ into.old.items ++ (word.now ++ codes " " ++ colour_text colour ++ codes " " ++ rgb_text (rgb_in (counting table.now) colour))) }
+    ensures ok { OnOk result (into.new.items ≡ into.old.items ++ (word.now ++ colour_text colour ++ codes " " ++ rgb_text (rgb_in (counting table.now) colour))) }
     ensures keeps { Extends into.old.items into.new.items }
 {
     into.extend_from_slice(word)?;
-    into.push(b' ')?;
     print_colour(colour, into)?;
     print_rgb(table.rgb(colour), into)
 }

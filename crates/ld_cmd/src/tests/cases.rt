@@ -474,4 +474,85 @@ part 1 - parts/3001.dat at model/car.ldr:10
 quad 1 - cert clip ccw 160,0,-20 160,0,20 240,0,20 240,0,-20 parts/3001.dat:7
 tri 1 - cert clip ccw 200,-4,0 206,-4,0 200,-4,6 p/stud.dat:7
 line e1 - cert clip ccw 200,-4,0 206,-4,0 p/stud.dat:8
+@replay m.ldr s.txt
+^work m.ldr
+1 16 0 0 0 1 0 0 0 1 0 0 0 1 X.DAT
+^work s.txt
+faces
+drop\tparts\tx.dat
+faces
+drop\tp\tx.dat
+faces
+new\tparts\tx.dat
+faces
+^parts x.dat
+2 24 0 0 0 1 0 0
+^p x.dat
+2 24 0 0 0 2 0 0
+~0
+part 16 - parts/x.dat at model/m.ldr:1
+line 24 - nocert clip ccw 0,0,0 1,0,0 parts/x.dat:1
+done
+ok
+part 16 - p/x.dat at model/m.ldr:1
+line 24 - nocert clip ccw 0,0,0 2,0,0 p/x.dat:1
+done
+ok
+fault missing model/m.ldr:1 x.dat
+ok
+part 16 - parts/x.dat at model/m.ldr:1
+done
+@replay m.ldr s.txt
+^work m.ldr
+0 FILE m.ldr
+2 24 0 0 0 1 0 0
+0 FILE a.ldr
+^work s.txt
+move\tmodel\tm.ldr\tmodel\ta.ldr
+set\tmodel\tm.ldr\t0\t0 x
+set\tmodel\tm.ldr\t2\t0 x
+ins\tmodel\tm.ldr\t2\t2 24 0 0 0 2 0 0
+del\tmodel\tgone.ldr\t1
+set\tmodel\tm.ldr\t1\t0 FILE z.ldr
+jump
+faces\tmodel\tgone.ldr\t16
+faces
+~0
+refused filethere
+refused noline 1
+refused noline 1
+ok
+refused nofile
+refused badline
+refused script
+refused nofile
+line 24 - nocert clip ccw 0,0,0 1,0,0 model/m.ldr:1
+line 24 - nocert clip ccw 0,0,0 2,0,0 model/m.ldr:2
+done
+@replay m.ldr s.txt --main 4
+^work m.ldr
+1 16 0 0 0 1 0 0 0 1 0 0 0 1 x.dat
+^work s.txt
+# the same part in two colours
+parts
+
+steps\tparts\tx.dat\t1
+^parts x.dat
+3 16 0 0 0 1 0 0 0 1 0
+~0
+1 4 parts/x.dat
+done
+step 1 entries 1 view -
+tri 1 - nocert clip ccw 0,0,0 1,0,0 0,1,0 parts/x.dat:1
+done
+@replay m.ldr s.txt
+^work m.ldr
+6 junk
+^work s.txt
+~0
+@replay m.ldr gone.txt --colours gone.ldr
+^work m.ldr
+6 junk
+~3
+absent gone.txt
 ";

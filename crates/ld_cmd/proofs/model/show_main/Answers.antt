@@ -5,7 +5,8 @@ use Rattle.ld_texts.specs.Learning.{Texts}
 use Rattle.ld_colour.specs.Table.{counting}
 use Rattle.ld_io.specs.Shelf.{Files}
 use Rattle.ld_words.specs.Shown.{options_shown}
-use Rattle.ld_cmd.specs.Output.{limits_of, main_output, shown_text}
+use Rattle.ld_cmd.specs.Output.{limits_of, main_output}
+use Rattle.ld_cmd.specs.Written.{shown_text}
 use Rattle.ld_cmd.specs.Querying.{Queries, answer_queried}
 use Rattle.ld_cmd.proofs.Queries.{main-told}
 use Rattle.ld_cmd.proofs.model.show_main.Goals as goal

@@ -1,0 +1,29 @@
+use Rattle.std.proofs.Common.{◌≡◌, ◌∙◌, ◌∷◌, arith}
+use Rattle.std.proofs.lemmas.List.{nil_from_length}
+use Rattle.ld_cmd.specs.declared.status.Status.TheVariants.{Done}
+use Rattle.ld_cmd.proofs.Leaves.{all-done, front-on}
+use Rattle.ld_cmd.proofs.replay.answer_all.Goals as goal
+
+pub returns-clause-leaves : goal.returns-clause-leaves
+returns-clause-leaves g c =
+    let empty = nil_from_length c.loop-command.rest.now c.in_default.ensures.cases in
+    c.loop-command.invariant.leaves Done (g.K.Sink.taken c.loop-command.out) (rw empty (all-done _ _ _ _))
+
+pub returns-in-Err-clause-leaves : goal.returns-in-Err-clause-leaves
+returns-in-Err-clause-leaves g c =
+    let rest : c.loop-command.rest.now ≡ c.in-Some.command.now ∷ c.in-Some.more.now = c.in-Some.ensures.cases.0 in
+    c.loop-command.invariant.leaves c.in-Err.status (g.K.Sink.taken c.answer_command.new.out) (rw rest (c.in-Err.ensures.stops c.in-Some.more.now))
+
+pub loop-command-preserved : goal.loop-command-preserved
+loop-command-preserved g c =
+    let before = c.loop-command.invariant in
+    let rest : c.loop-command.rest.now ≡ c.in-Some.command.now ∷ c.in-Some.more.now = c.in-Some.ensures.cases.0 in
+    record {
+      limits = c.answer_command.ensures.limits ∙ before.limits;
+      same = c.answer_command.ensures.same ∙ before.same;
+      told_same = c.answer_command.ensures.told_same ∙ before.told_same;
+      read = omega (arith, before.read, c.answer_command.ensures.shelf_faults);
+      written = omega (arith, before.written, c.answer_command.ensures.sink_faults);
+      in_front = front-on (g.K.Sink.taken c.args.out.now) (g.K.Sink.taken c.loop-command.out) (g.K.Sink.taken c.answer_command.new.out) before.in_front c.answer_command.ensures.in_front;
+      leaves = λ status after left. before.leaves status after (rw rest (c.in-Ok.ensures.goes_on c.in-Some.more.now status after left));
+    }

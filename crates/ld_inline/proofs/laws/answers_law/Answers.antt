@@ -1,0 +1,5 @@
+use Rattle.ld_inline.proofs.Answered.{answers-inline}
+use Rattle.ld_inline.proofs.laws.answers_law.Goals as goal
+
+pub returns : goal.returns
+returns c = answers-inline c.lawful_law.ensures c.part_law.ensures
