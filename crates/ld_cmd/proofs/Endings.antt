@@ -1,10 +1,11 @@
 -- Complete runs, and runs that end with the usage line.
-use Rattle.std.proofs.Common.{◌≡◌, ℕ, List, [], ◌∷◌, Option, Some, None, IfSome, refl, ap, sym, subst, inl, inr}
+use Rattle.std.proofs.Common.{◌≡◌, ℕ, List, [], ◌∷◌, Bool, true, false, not, is_some, Option, Some, None, IfSome, refl, ap, sym, subst, inl, inr}
 use Rattle.ld_io.specs.Shelf.{Files}
 use Rattle.ld_cmd.specs.declared.status.Status.{Status}
 use Rattle.ld_cmd.specs.declared.status.Status.TheVariants.{Done, Faulted, Usage, Input, ReadFault, WriteFault, Memory, Limit}
 use Rattle.ld_cmd.specs.Ending.{EndsAs, IsComplete, Takes}
-use Rattle.ld_cmd.specs.Output.{usage, usage_line}
+use Rattle.ld_words.specs.Words.{Intent, intent_of}
+use Rattle.ld_cmd.specs.Output.{commanded, output, usage, usage_line}
 use Rattle.ld_cmd.specs.Written.{Output}
 
 -- the status of a run over files that are told
@@ -54,3 +55,14 @@ same_ends status given wanted (Some files) same ends = subst (λ out. EndsAs sta
 pub same_takes : (status : Status) (given wanted : Files → Output) (files : Option Files) (before after : Option (List ℕ)) → SameTold given wanted files → TakesTold status given files before after → TakesTold status wanted files before after
 same_takes status given wanted None before after same takes = tt
 same_takes status given wanted (Some files) before after same takes = subst (λ out. IfSome before (λ b. Takes status out.pieces b after)) same takes
+
+no-intent : (is_command : Bool) (found : Option Intent) → is_command ≡ is_some found → is_command ≡ false → found ≡ None
+no-intent true found is lacks = absurd (cc)
+no-intent false None is lacks = refl
+no-intent false (Some intent) is lacks = absurd (cc)
+
+-- words outside the grammar give the usage line
+pub usage-told : (words : List (List ℕ)) (files : Option Files) (is_command : Bool) → is_command ≡ is_some (intent_of words) → is_command ≡ false → UsageTold (output words) files
+unfolding output
+usage-told words None is_command is lacks = tt
+usage-told words (Some files) is_command is lacks = ap (λ found. commanded found files) (sym (no-intent is_command (intent_of words) is lacks))

@@ -42,8 +42,7 @@ first-none (suc n) piece before after none is = absurd (omega (arith, none))
 -- a piece that is not taken whole
 takes-part : (status : Status) (piece : List ℕ) (more : List (List ℕ)) (before : List ℕ) (after : Option (List ℕ)) → IsStoppedPut status → Takes status (piece ∷ []) before after → TakesUpTo (interruption_of status) (piece ∷ more) before after
 takes-part WriteFault piece more before after stops takes =
-    let within : takes.0 < length piece = rw (append-nil piece) at takes.1 in
-    (
+    let within : takes.0 < length piece = rw (append-nil piece) at takes.1 in (
       takes.0,
       omega (arith, within, length-append piece (concat more)),
       takes.2 ∙ ap (λ bytes. Some (before ++ take takes.0 bytes)) (append-nil piece) ∙ ap (λ bytes. Some (before ++ bytes)) (sym (take-append-le takes.0 piece (concat more) (omega (arith, within)))),

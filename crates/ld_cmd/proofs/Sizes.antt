@@ -1,4 +1,4 @@
--- An answer has no more entries than it may have.
+-- An answer has no more entries than it may have, and its steps cover them.
 use Rattle.std.proofs.Common.{◌≡◌, ◌≤◌, ◌<◌, ◌⊎◌, get_or, ◌∙◌, ℕ, List, Option, Some, None, Result, Ok, Err, length, slice_get, inl, inr, sym, subst, ap, refl, rules, IfOk}
 use Rattle.std.proofs.lemmas.Option.{slice_get_cases}
 use Rattle.ld_names.specs.Standing.{Known}
@@ -10,8 +10,10 @@ use Rattle.ld_entry.specs.Laws.{TintLaw}
 use Rattle.ld_entry.specs.NumberedTexts.{known_texts, NumberedTexts}
 use Rattle.ld_entry.specs.declared.entry.Entry.{Entry}
 use Rattle.ld_entry.specs.declared.entry.Fault.{Fault}
+use Rattle.ld_steps.specs.Laws.{AreSteps}
 use Rattle.ld_steps.specs.declared.step.StepPart.{StepPart}
 use Rattle.ld_engine.specs.Asking.{Answers}
+use Rattle.ld_engine.specs.Laws.{StepsOfAnswers}
 use Rattle.ld_engine.specs.Stepping.{steps_in, with_steps}
 use Rattle.ld_engine.specs.declared.asking.Answer.{Answer}
 use Rattle.ld_engine.specs.declared.asking.AnswerError.{AnswerError}
@@ -47,3 +49,7 @@ with-steps tint texts depth most root colour (Err fault) given there is = cc
 pub answer-size : (tint : TintLaw) (limits : Limits) (root : FileId) (colour : Colour) (known : Known) (result : Result Answer AnswerError) → Answers limits root colour known result → IfOk result (λ answer. length answer.entries ≤ limits.entries)
 answer-size tint limits root colour known (Ok answer) is = with-steps tint (known_texts known) limits.depth limits.entries (record { 0 = is.id }) colour _ answer refl is.answer
 answer-size tint limits root colour known (Err error) is = tt
+
+pub answer-steps : (law : StepsOfAnswers) (limits : Limits) (root : FileId) (colour : Colour) (known : Known) (result : Result Answer AnswerError) → Answers limits root colour known result → IfOk result (λ answer. AreSteps (length answer.entries) answer.steps)
+answer-steps law limits root colour known (Ok answer) is = law (known_texts known) limits.depth limits.entries (record { 0 = is.id }) colour answer is.answer
+answer-steps law limits root colour known (Err error) is = tt

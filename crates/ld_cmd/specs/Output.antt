@@ -4,25 +4,34 @@ use Rattle.std.specs.List.{list_any}
 use Rattle.ld_io.specs.Shelf.{Files}
 use Rattle.ld_io.specs.declared.shelf.Place.TheVariants.{Work}
 use Rattle.ld_names.specs.Normal.{normal_of}
-use Rattle.ld_names.specs.Standing.{Known}
+use Rattle.ld_names.specs.Standing.{Known, file_in}
+use Rattle.ld_names.specs.declared.file.Folder.TheVariants.{Model}
 use Rattle.ld_names.specs.declared.file.FileId.{FileId}
 use Rattle.ld_names.specs.declared.name.NameError.{NameError}
-use Rattle.ld_mpd.specs.Blocks.{text_blocks}
+use Rattle.ld_mpd.specs.Blocks.{text_blocks, text_of}
+use Rattle.ld_check.specs.Findings.{findings_of}
+use Rattle.ld_check.specs.declared.finding.Finding.{Finding}
+use Rattle.ld_inline.specs.Text.{inlined_text}
+use Rattle.ld_report.specs.Findings.{findings_text}
 use Rattle.ld_texts.specs.declared.change.Over.{Over}
 use Rattle.ld_texts.specs.declared.change.Over.TheVariants as over
 use Rattle.ld_colour.specs.Colour.{colour_of}
 use Rattle.ld_colour.specs.Table.{Counting, table_in}
-use Rattle.ld_engine.specs.Learning.{Learnt, Stop, TooBig, Full, learning}
-use Rattle.ld_engine.specs.Loading.{load, main_of}
+use Rattle.ld_engine.specs.Learning.{Stop, learning}
+use Rattle.ld_engine.specs.Loading.{Blocks, load}
 use Rattle.ld_engine.specs.declared.asking.Answer.{Answer}
+use Rattle.ld_entry.specs.declared.entry.Fault.{Fault}
 use Rattle.ld_engine.specs.declared.limits.Limits.{Limits}
 use Rattle.ld_report.specs.Entries.{entries_text, fault_text}
 use Rattle.ld_report.specs.Parts.{parts_of, parts_text}
 use Rattle.ld_report.specs.Pieces.{file_text}
 use Rattle.ld_report.specs.Steps.{steps_text}
 use Rattle.ld_words.specs.Words.{Intent, Options, Task, Show, Replay, Generate, intent_of}
+use Rattle.ld_words.specs.declared.listing.Listing.{Listing}
 use Rattle.ld_words.specs.declared.listing.Listing.TheVariants as listing
 use Rattle.ld_cmd.specs.Generator.{generated, summary_text}
+use Rattle.ld_cmd.specs.declared.answer.Form.{Form}
+use Rattle.ld_cmd.specs.declared.answer.Form.TheVariants.{Listed, Inlined}
 use Rattle.ld_cmd.specs.declared.answer.Shown.{Shown}
 use Rattle.ld_cmd.specs.declared.answer.Shown.TheVariants.{Faces, Steps, Parts, Summary}
 use Rattle.ld_cmd.specs.declared.status.Status.{Status}
@@ -31,32 +40,15 @@ use Rattle.ld_script.specs.Script.{commands_of}
 use Rattle.ld_script.specs.declared.command.Command.{Command}
 use Rattle.ld_cmd.specs.Playing.{played}
 use Rattle.ld_cmd.specs.Written.{Output, and_then, one_piece, over_text, shown_text, stop_text}
-use Rattle.ld_cmd.specs.Querying.{Queried, Stops, NoRoot, Faulted, Answered, queried}
+use Rattle.ld_cmd.specs.Querying.{answer_at}
 
--- ---- 1. Words that are no command, and commands that are not answered yet.
+-- ---- 1. Words that are no command.
 
 abbrev pub usage_line : List ℕ
 usage_line = codes "usage: ldraw (faces|steps|parts|inline|check) FILE | replay FILE SCRIPT | gen N\n"
 
 abbrev pub usage : Output
 usage = one_piece usage_line status.Usage
-
-abbrev pub is_answered : Task → Bool
-is_answered (Show listing.Faces file) = true
-is_answered (Show listing.Steps file) = true
-is_answered (Show listing.Parts file) = true
-is_answered (Show listing.Inline file) = false
-is_answered (Show listing.Check file) = false
-is_answered (Replay file script) = true
-is_answered (Generate count) = true
-
--- what the words ask for, if they are a command that is answered
-abbrev pub answered_intent : Option Intent → Option Intent
-answered_intent (Some intent) = if is_answered intent.task then Some intent else None
-answered_intent None = None
-
-abbrev pub request_of : List (List ℕ) → Option Intent
-request_of words = answered_intent (intent_of words)
 
 -- ---- 2. Files that the words name.
 
@@ -115,48 +107,79 @@ abbrev pub loaded_by : Result Known Over → Result Known Output
 loaded_by (Ok known) = Ok known
 loaded_by (Err passed) = Err (one_piece (over_text passed) status.Limit)
 
+-- the main model is the first text, and there always is one
+abbrev pub main_file : List ℕ → Blocks → FileId
+main_file own [] = file_in Model own
+main_file own (text ∷ texts) = file_in Model text.0
+
 -- ---- 5. Queries.
 
--- the output of a query; the main model is there, so that its root never lacks
-abbrev pub queried_output : (Known → Answer → List ℕ) → Known → Queried → Output
-queried_output show known (Stops stop) = one_piece (stop_text stop) status.Limit
-queried_output show known NoRoot = one_piece [] status.Done
-queried_output show known (Faulted fault) = one_piece (fault_text known fault) status.Faulted
-queried_output show known (Answered answer) = one_piece (show known answer) status.Done
+-- the inlined text, or the code of an edge colour without a value
+abbrev pub inlined_output : Result (List ℕ) ℕ → Output
+inlined_output (Ok text) = one_piece text status.Done
+inlined_output (Err code) = one_piece (codes "nocolour " ++ decimal code ++ codes "\n") status.Faulted
+
+-- the output of an answer, by the colours that are defined and the files that are known
+abbrev pub answered_output : Form → Counting → Known → Answer → Output
+answered_output (Listed what) table known answer = one_piece (shown_text what table known answer) status.Done
+answered_output Inlined table known answer = inlined_output (inlined_text answer.entries answer.steps table)
+
+-- an answer is shown, or the first fault
+abbrev pub shown_or_fault : (Known → Answer → Output) → Known → Result Answer Fault → Output
+shown_or_fault show known (Ok answer) = show known answer
+shown_or_fault show known (Err fault) = one_piece (fault_text known fault) status.Faulted
+
+-- once learning has ended: the main model is the first of the known texts
+abbrev pub learnt_output : (Known → Answer → Output) → Options → Files → Known → Option Stop → Output
+learnt_output show options files known (Some stop) = one_piece (stop_text stop) status.Limit
+learnt_output show options files known None = shown_or_fault show known (answer_at (limits_of options) files (colour_of options.main) known 0)
 
 -- the output of the query of a model's main model, once its texts are known
-abbrev pub main_output : (Known → Answer → List ℕ) → Options → Files → Option FileId → Known → Output
-main_output show options files None known = one_piece [] status.Done
-main_output show options files (Some main) known =
-    let learnt = learning (limits_of options) files main known in queried_output show learnt.known (queried (limits_of options) files main (colour_of options.main) learnt)
+abbrev pub main_output : (Known → Answer → Output) → Options → Files → FileId → Known → Output
+main_output show options files main known =
+    let learnt = learning (limits_of options) files main known in learnt_output show options files learnt.known learnt.stop
 
 -- the output of a model by its name and its bytes
-abbrev pub model_output : (Known → Answer → List ℕ) → Options → Files → List ℕ → List ℕ → Output
+unfoldable pub model_output : (Known → Answer → Output) → Options → Files → List ℕ → List ℕ → Output
 model_output show options files own bytes =
-    and_then (loaded_by (load (limits_of options) [] (text_blocks own bytes))) (main_output show options files (main_of (text_blocks own bytes)))
+    and_then (loaded_by (load (limits_of options) [] (text_blocks own bytes))) (main_output show options files (main_file own (text_blocks own bytes)))
 
 -- the output of a command that shows a file
-abbrev pub shown_output : Shown → List ℕ → Options → Files → Output
+abbrev pub shown_output : Form → List ℕ → Options → Files → Output
 shown_output what file options files =
-    and_then (input file (files Work file)) (λ bytes. and_then (table_of options.colours files) (λ table. model_output (shown_text what table) options files (own_name file) bytes))
+    and_then (input file (files Work file)) (λ bytes. and_then (table_of options.colours files) (λ table. model_output (answered_output what table) options files (own_name file) bytes))
 
 -- the output about a generated model
 abbrev pub generated_output : ℕ → Options → Files → Output
 generated_output count options files =
-    and_then (table_of options.colours files) (λ table. model_output (shown_text Summary table) options files (codes "gen.mpd") (generated count))
+    and_then (table_of options.colours files) (λ table. model_output (answered_output (Listed Summary) table) options files (codes "gen.mpd") (generated count))
+
+-- ---- 6. Findings.
+
+abbrev pub found_output : List Finding → Output
+found_output findings = one_piece (findings_text findings) (if length findings == 0 then status.Done else status.Faulted)
+
+-- what is found in the main model's text, by the model's name and its bytes
+unfoldable pub checked : Options → List ℕ → List ℕ → Output
+checked options own bytes =
+    and_then (loaded_by (load (limits_of options) [] (text_blocks own bytes))) (λ known. found_output (findings_of (main_file own (text_blocks own bytes)) (text_of own bytes)))
+
+-- the output of the command that checks a file
+abbrev pub check_output : List ℕ → Options → Files → Output
+check_output file options files =
+    and_then (input file (files Work file)) (λ bytes. and_then (table_of options.colours files) (λ table. checked options (own_name file) bytes))
 
 -- ---- 7. Scripts.
 
 -- the output of a script over a model, once its texts are known
-abbrev pub main_replayed : Options → Counting → List Command → Files → Option FileId → Known → Output
-main_replayed options table commands files None known = one_piece [] status.Done
-main_replayed options table commands files (Some main) known =
+abbrev pub main_replayed : Options → Counting → List Command → Files → FileId → Known → Output
+main_replayed options table commands files main known =
     played (record { limits = limits_of options; table = table; main = main; colour = options.main }) files known commands
 
 -- over a model by its name and its bytes
-abbrev pub replayed : Options → Counting → List Command → Files → List ℕ → List ℕ → Output
+unfoldable pub replayed : Options → Counting → List Command → Files → List ℕ → List ℕ → Output
 replayed options table commands files own bytes =
-    and_then (loaded_by (load (limits_of options) [] (text_blocks own bytes))) (main_replayed options table commands files (main_of (text_blocks own bytes)))
+    and_then (loaded_by (load (limits_of options) [] (text_blocks own bytes))) (main_replayed options table commands files (main_file own (text_blocks own bytes)))
 
 -- the output of the command that answers a script over a file
 abbrev pub replay_output : List ℕ → List ℕ → Options → Files → Output
@@ -165,12 +188,15 @@ replay_output file script options files =
 
 -- ---- The whole.
 
+abbrev pub listing_output : Listing → List ℕ → Options → Files → Output
+listing_output listing.Faces file options files = shown_output (Listed Faces) file options files
+listing_output listing.Steps file options files = shown_output (Listed Steps) file options files
+listing_output listing.Parts file options files = shown_output (Listed Parts) file options files
+listing_output listing.Inline file options files = shown_output Inlined file options files
+listing_output listing.Check file options files = check_output file options files
+
 abbrev pub task_output : Task → Options → Files → Output
-task_output (Show listing.Faces file) options files = shown_output Faces file options files
-task_output (Show listing.Steps file) options files = shown_output Steps file options files
-task_output (Show listing.Parts file) options files = shown_output Parts file options files
-task_output (Show listing.Inline file) options files = usage
-task_output (Show listing.Check file) options files = usage
+task_output (Show what file) options files = listing_output what file options files
 task_output (Replay file script) options files = replay_output file script options files
 task_output (Generate count) options files = generated_output count options files
 
@@ -180,4 +206,4 @@ commanded (Some intent) files = task_output intent.task intent.options files
 
 -- what words give over the files of a shelf
 unfoldable pub output : List (List ℕ) → Files → Output
-output words files = commanded (request_of words) files
+output words files = commanded (intent_of words) files

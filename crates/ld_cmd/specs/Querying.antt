@@ -1,6 +1,6 @@
 -- A query over the files of a shelf: what its root reaches is learnt, and then the texts as they stand answer it by
 -- recursive expansion.
-use Rattle.std.specs.Prelude.{◌≡◌, ℕ, Option, Some, None, Result, Ok, Err, IfSome}
+use Rattle.std.specs.Prelude.{◌≡◌, ℕ, List, ◌∷◌, Option, Some, None, Result, Ok, Err, IfSome}
 use Rattle.ld_io.specs.Shelf.{Files}
 use Rattle.ld_names.specs.Standing.{Known, Text, known_map}
 use Rattle.ld_names.specs.declared.file.FileId.{FileId}
@@ -55,6 +55,13 @@ answer_queried (Err (refused.Full over)) = Some (Stops (Full over))
 answer_queried (Err refused.NoRoot) = Some NoRoot
 answer_queried (Err refused.ReadFault) = None
 answer_queried (Err refused.Memory) = None
+
+-- the file is the first that is known, and it is there with these lines
+abbrev pub BeginsWith : FileId → List (List ℕ) → Known → Type 0
+BeginsWith file lines known = (rest : Known) × (known ≡ (file, Some lines) ∷ rest)
+
+abbrev pub IsFirst : FileId → Known → Type 0
+IsFirst file known = (lines : List (List ℕ)) × BeginsWith file lines known
 
 -- what is known after a query, and what it comes to
 pub record Queries (limits : Limits) (files : Files) (root : FileId) (colour : Colour) (old new : Known) (given : Queried) : Type 0 where

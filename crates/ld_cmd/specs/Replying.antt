@@ -10,7 +10,7 @@ use Rattle.ld_cmd.specs.Made.{Stops, output_of}
 use Rattle.ld_cmd.specs.Playing.{Setting, Step, Reply, Ends, limited, played, refusal_text}
 use Rattle.ld_cmd.specs.Written.{Output}
 use Rattle.ld_cmd.specs.declared.made.Stop.{Stop}
-use Rattle.ld_cmd.specs.declared.made.Stop.TheVariants.{Usage, Decided, ReadFault, Memory}
+use Rattle.ld_cmd.specs.declared.made.Stop.TheVariants.{Decided, ReadFault, Memory}
 use Rattle.ld_cmd.specs.declared.status.Status.TheVariants.{Limit}
 use Rattle.ld_cmd.specs.declared.session.Session.{Session}
 use Rattle.ld_cmd.specs.declared.session.Setting.{Setting as Held}
@@ -44,7 +44,6 @@ IsNoScript result = ⊤
 abbrev pub Replies : Step → Known → Result (List ℕ) Stop → Type 0
 Replies wanted known (Ok reply) = wanted ≡ Reply reply known
 Replies wanted known (Err (Decided made)) = (wanted ≡ Ends made.text.items) × (made.status ≡ Limit)
-Replies wanted known (Err Usage) = ⊥
 Replies wanted known (Err ReadFault) = ⊤
 Replies wanted known (Err Memory) = ⊤
 

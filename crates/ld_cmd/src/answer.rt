@@ -1,16 +1,24 @@
 // What is shown of an answer.
-ghost use Rattle.std.specs.Prelude.{◌≡◌, ◌<◌, ◌^◌, IfOk, length};
+ghost use Rattle.std.specs.Prelude.{◌≡◌, ◌≢◌, ◌<◌, ◌^◌, Err, IfOk, length};
 ghost use Rattle.ld_colour.specs.Table.{counting};
 ghost use Rattle.ld_report.specs.Entries.{entries_text};
 ghost use Rattle.ld_report.specs.Parts.{parts_of, parts_text};
 ghost use Rattle.ld_report.specs.Steps.{steps_text};
+ghost use Rattle.ld_inline.specs.Text.{inlined_text};
+ghost use Rattle.ld_steps.specs.Laws.{AreSteps};
+ghost use Rattle.ld_cmd.specs.Made.{Makes};
+ghost use Rattle.ld_cmd.specs.Output.{answered_output, inlined_output};
 ghost use Rattle.ld_cmd.specs.Generator.{summary_text};
 ghost use Rattle.ld_cmd.specs.Written.{shown_text};
 
 use crate::generator::summary;
+use crate::lines::about_number;
+use crate::made::{Made, Stop};
+use crate::status::Status;
 use ld_colour::Table;
 use ld_engine::Answer;
 use ld_entry::Entry;
+use ld_inline::{InlineError, inline};
 use ld_report::{parts_list, print_entries, print_parts, print_steps};
 use ld_texts::Texts;
 use std::alloc::{AllocError, Global};
@@ -22,6 +30,60 @@ pub(crate) enum Shown {
     Steps,
     Parts,
     Summary,
+}
+
+// What a command makes of an answer.
+#[derive(Clone, Copy, Debug, PartialEq, Eq)]
+pub(crate) enum Form {
+    Listed(Shown),
+    // One text without references.
+    Inlined,
+}
+
+pub(crate) fn make_answer(
+    alloc: Global,
+    what: Form,
+    texts: &Texts,
+    table: &Table,
+    answer: &Answer,
+) -> Result<Made, Stop>
+    requires size { length answer.now.entries < 2 ^ 32 }
+    requires steps { AreSteps (length answer.now.entries) answer.now.steps }
+    ensures told { Makes (answered_output what (counting table.now) texts.now.known answer.now) result }
+    ensures no_fault { result ≢ Err Stop.ReadFault }
+{
+    match what {
+        Form::Listed(what) => Ok(Made {
+            text: print_answer(alloc, what, texts, table, answer)?,
+            status: Status::Done,
+        }),
+        Form::Inlined => make_inlined(alloc, table, answer),
+    }
+}
+
+fn make_inlined(alloc: Global, table: &Table, answer: &Answer) -> Result<Made, Stop>
+    requires { AreSteps (length answer.now.entries) answer.now.steps }
+    ensures told { Makes (inlined_output (inlined_text answer.now.entries answer.now.steps (counting table.now))) result }
+    ensures no_fault { result ≢ Err Stop.ReadFault }
+{
+    match inline(
+        alloc,
+        answer.entries.as_slice(),
+        answer.steps.as_slice(),
+        table,
+    ) {
+        Ok(text) => Ok(Made {
+            text,
+            status: Status::Done,
+        }),
+        Err(InlineError::NoColour(code)) => Err(about_number(
+            alloc,
+            b"nocolour ",
+            u64::from(code),
+            Status::Faulted,
+        )),
+        Err(InlineError::Memory) => Err(Stop::Memory),
+    }
 }
 
 pub(crate) fn print_answer(

@@ -20,7 +20,6 @@ pub(crate) const FILE_BYTES: u32 = 33_554_432;
 pub(crate) fn read_input<S: Shelf>(alloc: Global, word: &[u8], shelf: &mut S) -> Result<Bytes, Stop>
     ensures told { IfSome (S.files shelf.old) (λ files. Gives (λ bytes. bytes) (input word.now (files Place.Work word.now)) result) }
     ensures size { IfOk result (λ bytes. length bytes ≤ file_bytes) }
-    ensures goes_on { result ≢ Err Stop.Usage }
     ensures cause { result ≡ Err Stop.ReadFault → HasRisen (S.faults shelf.old) (S.faults shelf.new) }
     ensures same { S.files shelf.new ≡ S.files shelf.old }
     ensures never_falls { S.faults shelf.old ≤ S.faults shelf.new }
@@ -42,7 +41,6 @@ pub(crate) fn read_table<S: Shelf>(
     shelf: &mut S,
 ) -> Result<Table, Stop>
     ensures told { IfSome (S.files shelf.old) (λ files. Gives counting (table_of (option_map (λ file. file.now) word.entry) files) result) }
-    ensures goes_on { result ≢ Err Stop.Usage }
     ensures cause { result ≡ Err Stop.ReadFault → HasRisen (S.faults shelf.old) (S.faults shelf.new) }
     ensures same { S.files shelf.new ≡ S.files shelf.old }
     ensures never_falls { S.faults shelf.old ≤ S.faults shelf.new }
@@ -59,7 +57,6 @@ pub(crate) fn read_table<S: Shelf>(
 fn table_by(alloc: Global, bytes: &[u8]) -> Result<Table, Stop>
     requires { length bytes.now ≤ file_bytes }
     ensures told { Gives counting (table_by (table_in bytes.now)) result }
-    ensures goes_on { result ≢ Err Stop.Usage }
     ensures no_fault { result ≢ Err Stop.ReadFault }
 {
     match Table::read(alloc, bytes) {

@@ -19,7 +19,6 @@ pub(crate) fn about_word(alloc: Global, what: &[u8], word: &[u8], status: Status
     requires whole { IsWhole status }
     requires answers { status ≢ Usage }
     ensures decided { Stops (one_piece (what.now ++ word.now ++ codes "\n") status) result }
-    ensures goes_on { result ≢ Stop.Usage }
     ensures no_fault { result ≢ Stop.ReadFault }
 {
     match line_of(alloc, what, word) {
@@ -43,7 +42,6 @@ pub(crate) fn about_number(alloc: Global, what: &[u8], number: u64, status: Stat
     requires whole { IsWhole status }
     requires answers { status ≢ Usage }
     ensures decided { Stops (one_piece (what.now ++ decimal number ++ codes "\n") status) result }
-    ensures goes_on { result ≢ Stop.Usage }
     ensures no_fault { result ≢ Stop.ReadFault }
 {
     about_word(alloc, what, Buffer::new().format(number).as_bytes(), status)
@@ -52,7 +50,6 @@ pub(crate) fn about_number(alloc: Global, what: &[u8], number: u64, status: Stat
 // The line about a limit that is passed, with what was kept before it.
 pub(crate) fn about_limit(alloc: Global, over: Over) -> Stop
     ensures decided { Stops (one_piece (over_text over) Limit) result }
-    ensures goes_on { result ≢ Stop.Usage }
     ensures no_fault { result ≢ Stop.ReadFault }
 {
     match over {
@@ -64,7 +61,6 @@ pub(crate) fn about_limit(alloc: Global, over: Over) -> Stop
 // The line about a file that is too big to be learnt.
 pub(crate) fn about_file(alloc: Global, file: &FileId) -> Stop
     ensures decided { Stops (one_piece (stop_text (TooBig file.now)) Limit) result }
-    ensures goes_on { result ≢ Stop.Usage }
     ensures no_fault { result ≢ Stop.ReadFault }
 {
     match name_of(alloc, file) {

@@ -17,8 +17,6 @@ pub(crate) struct Made {
 // Why a run does not go on to its answer.
 #[derive(Debug, Drop)]
 pub(crate) enum Stop {
-    // The words are no command.
-    Usage,
     // What is to be written is decided already.
     Decided(Made),
     ReadFault,

@@ -4,17 +4,18 @@ ghost use Rattle.ld_io.specs.Faults.{HasRisen};
 ghost use Rattle.ld_names.specs.Normal.{GivesName};
 ghost use Rattle.ld_names.specs.declared.name.NameError.{NameError};
 ghost use Rattle.ld_engine.specs.Limits.{bad_limit};
-ghost use Rattle.ld_words.specs.Shown.{intent_shown, options_shown};
-ghost use Rattle.ld_words.specs.Words.{IsBounded};
+ghost use Rattle.ld_words.specs.Shown.{intent_shown, options_shown, task_shown};
+ghost use Rattle.ld_words.specs.Words.{IsBounded, intent_of};
 ghost use Rattle.ld_io.specs.Shelf.{Files};
-ghost use Rattle.ld_cmd.specs.Ending.{PutsOnce};
-ghost use Rattle.ld_cmd.specs.Made.{IsFaulty, Makes};
+ghost use Rattle.ld_cmd.specs.Ending.{PutsOnce, PutsOnceFor};
+ghost use Rattle.ld_cmd.specs.Made.{Makes};
 ghost use Rattle.ld_cmd.specs.Replying.{IsNoScript, Opens, Works};
 ghost use Rattle.ld_cmd.specs.Written.{Output};
 ghost use Rattle.ld_cmd.specs.declared.made.Stop.{Stop};
-ghost use Rattle.ld_cmd.specs.Output.{after_slash, answered_intent, commanded, generated_output, limits_of, name_or_default, output, own_name, request_of, shown_output};
+ghost use Rattle.ld_cmd.specs.Output.{after_slash, generated_output, limits_of, listing_output, name_or_default, output, own_name, shown_output, task_output};
 
-use crate::answer::Shown;
+use crate::answer::{Form, Shown};
+use crate::check::check_file;
 use crate::generator::generate;
 use crate::inputs::{read_input, read_table};
 use crate::made::{Made, Stop};
@@ -23,27 +24,23 @@ use crate::script::open_replay;
 use crate::session::{Session, Work};
 use ld_io::Shelf;
 use ld_names::{Name, NameError, normal};
-use ld_words::{Listing, Options, Request, Task, given_words, is_command, read_request};
+use ld_words::{Listing, Options, Request, Task, given_words, read_request};
 use std::alloc::{AllocError, Global};
 
-// What the words give.
+// What the words, which are in the grammar, give.
 #[tactic(auto, unfolding(crate::specs::Output::output))]
 pub(crate) fn make_work<S: Shelf>(
     alloc: Global,
     words: &[String],
     shelf: &mut S,
 ) -> Result<Work, Stop>
+    requires in_grammar { IsSome (intent_of (map string_bytes words.now)) }
     ensures told { IfSome (S.files shelf.old) (λ files. Works (output (map string_bytes words.now) files) files result) }
-    ensures faulty { request_of (map string_bytes words.now) ≡ None → IsFaulty result }
-    ensures once { PutsOnce (request_of (map string_bytes words.now)) → IsNoScript result }
-    ensures command { IsSome (request_of (map string_bytes words.now)) → result ≢ Err Stop.Usage }
+    ensures once { PutsOnce (intent_of (map string_bytes words.now)) → IsNoScript result }
     ensures cause { result ≡ Err Stop.ReadFault → HasRisen (S.faults shelf.old) (S.faults shelf.new) }
     ensures same { S.files shelf.new ≡ S.files shelf.old }
     ensures never_falls { S.faults shelf.old ≤ S.faults shelf.new }
 {
-    if !is_command(words) {
-        return Err(Stop::Usage);
-    }
     let given = given_words(alloc, words)?;
     let request = read_request(alloc, words, given.as_slice())?;
     make_request(alloc, &request, shelf)
@@ -52,35 +49,24 @@ pub(crate) fn make_work<S: Shelf>(
 #[tactic(auto, using(crate::proofs::Bounds::limits_are_good))]
 fn make_request<S: Shelf>(alloc: Global, request: &Request, shelf: &mut S) -> Result<Work, Stop>
     requires bounds { IsBounded (intent_shown request.now) }
-    ensures told { IfSome (S.files shelf.old) (λ files. Works (commanded (answered_intent (Some (intent_shown request.now))) files) files result) }
-    ensures faulty { answered_intent (Some (intent_shown request.now)) ≡ None → IsFaulty result }
-    ensures once { PutsOnce (answered_intent (Some (intent_shown request.now))) → IsNoScript result }
-    ensures command { IsSome (answered_intent (Some (intent_shown request.now))) → result ≢ Err Stop.Usage }
+    ensures told { IfSome (S.files shelf.old)
+        (λ files. Works (task_output (task_shown request.now.task) (options_shown request.now.options) files) files result) }
+    ensures once { PutsOnceFor (task_shown request.now.task) → IsNoScript result }
     ensures cause { result ≡ Err Stop.ReadFault → HasRisen (S.faults shelf.old) (S.faults shelf.new) }
     ensures same { S.files shelf.new ≡ S.files shelf.old }
     ensures never_falls { S.faults shelf.old ≤ S.faults shelf.new }
 {
     let options = &request.options;
     match request.task {
-        Task::Show(Listing::Faces, file) => {
-            written(show_file(alloc, Shown::Faces, file, options, shelf))
-        }
-        Task::Show(Listing::Steps, file) => {
-            written(show_file(alloc, Shown::Steps, file, options, shelf))
-        }
-        Task::Show(Listing::Parts, file) => {
-            written(show_file(alloc, Shown::Parts, file, options, shelf))
-        }
+        Task::Show(what, file) => written(show_listing(alloc, what, file, options, shelf)),
+        Task::Replay(file, script) => played(open_replay(alloc, file, script, options, shelf)),
         Task::Generate(count) => written(show_generated(alloc, count, options, shelf)),
-        Task::Replay(file, script) => {
-            played(open_replay(alloc, file, script, options, shelf))
-        }
-        Task::Show(Listing::Inline | Listing::Check, _) => Err(Stop::Usage),
     }
 }
 
 fn written(made: Result<Made, Stop>) -> Result<Work, Stop>
-    ensures told { (files : Option Files) (wanted : Files → Output) → IfSome files (λ all. Makes (wanted all) made) → IfSome files (λ all. Works (wanted all) all result) }
+    ensures told { (files : Option Files) (wanted : Files → Output)
+        → IfSome files (λ all. Makes (wanted all) made) → IfSome files (λ all. Works (wanted all) all result) }
     ensures once { IsNoScript result }
     ensures stopped { (stop : Stop) → result ≡ Err stop → made ≡ Err stop }
 {
@@ -91,7 +77,8 @@ fn written(made: Result<Made, Stop>) -> Result<Work, Stop>
 }
 
 fn played(session: Result<Session, Stop>) -> Result<Work, Stop>
-    ensures told { (files : Option Files) (wanted : Files → Output) → IfSome files (λ all. Opens (wanted all) all session) → IfSome files (λ all. Works (wanted all) all result) }
+    ensures told { (files : Option Files) (wanted : Files → Output)
+        → IfSome files (λ all. Opens (wanted all) all session) → IfSome files (λ all. Works (wanted all) all result) }
     ensures stopped { (stop : Stop) → result ≡ Err stop → session ≡ Err stop }
 {
     match session {
@@ -100,17 +87,38 @@ fn played(session: Result<Session, Stop>) -> Result<Work, Stop>
     }
 }
 
+fn show_listing<S: Shelf>(
+    alloc: Global,
+    what: Listing,
+    file: &str,
+    options: &Options,
+    shelf: &mut S,
+) -> Result<Made, Stop>
+    requires bounds { bad_limit (limits_of (options_shown options.now)) ≡ None }
+    ensures told { IfSome (S.files shelf.old) (λ files. Makes (listing_output what file.now (options_shown options.now) files) result) }
+    ensures cause { result ≡ Err Stop.ReadFault → HasRisen (S.faults shelf.old) (S.faults shelf.new) }
+    ensures same { S.files shelf.new ≡ S.files shelf.old }
+    ensures never_falls { S.faults shelf.old ≤ S.faults shelf.new }
+{
+    match what {
+        Listing::Faces => show_file(alloc, Form::Listed(Shown::Faces), file, options, shelf),
+        Listing::Steps => show_file(alloc, Form::Listed(Shown::Steps), file, options, shelf),
+        Listing::Parts => show_file(alloc, Form::Listed(Shown::Parts), file, options, shelf),
+        Listing::Inline => show_file(alloc, Form::Inlined, file, options, shelf),
+        Listing::Check => check_file(alloc, file, options, shelf),
+    }
+}
+
 // What a file shows.
 fn show_file<S: Shelf>(
     alloc: Global,
-    what: Shown,
+    what: Form,
     file: &str,
     options: &Options,
     shelf: &mut S,
 ) -> Result<Made, Stop>
     requires bounds { bad_limit (limits_of (options_shown options.now)) ≡ None }
     ensures told { IfSome (S.files shelf.old) (λ files. Makes (shown_output what file.now (options_shown options.now) files) result) }
-    ensures goes_on { result ≢ Err Stop.Usage }
     ensures cause { result ≡ Err Stop.ReadFault → HasRisen (S.faults shelf.old) (S.faults shelf.new) }
     ensures same { S.files shelf.new ≡ S.files shelf.old }
     ensures never_falls { S.faults shelf.old ≤ S.faults shelf.new }
@@ -137,7 +145,6 @@ fn show_generated<S: Shelf>(
     requires bounds { bad_limit (limits_of (options_shown options.now)) ≡ None }
     requires count { count ≤ 100000 }
     ensures told { IfSome (S.files shelf.old) (λ files. Makes (generated_output count (options_shown options.now) files) result) }
-    ensures goes_on { result ≢ Err Stop.Usage }
     ensures cause { result ≡ Err Stop.ReadFault → HasRisen (S.faults shelf.old) (S.faults shelf.new) }
     ensures same { S.files shelf.new ≡ S.files shelf.old }
     ensures never_falls { S.faults shelf.old ≤ S.faults shelf.new }
@@ -150,7 +157,7 @@ fn show_generated<S: Shelf>(
     let bytes = generate(alloc, count)?;
     show_model(
         alloc,
-        Shown::Summary,
+        Form::Listed(Shown::Summary),
         options,
         &own,
         bytes.as_slice(),

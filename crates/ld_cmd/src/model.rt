@@ -2,18 +2,19 @@
 ghost use Rattle.std.specs.Prelude.{◌≡◌, ◌≢◌, ◌≤◌, ◌++◌, ◌<◌, ◌^◌, [], ℕ, List, Ok, Err, IfOk, IfSome, Some, length, None};
 ghost use Rattle.std.specs.List.{flat_map};
 ghost use Rattle.ld_io.specs.Faults.{HasRisen};
-ghost use Rattle.ld_mpd.specs.Blocks.{text_blocks};
+ghost use Rattle.ld_mpd.specs.Blocks.{text_blocks, text_of};
 ghost use Rattle.ld_colour.specs.Table.{counting};
 ghost use Rattle.ld_engine.specs.Limits.{bad_limit};
-ghost use Rattle.ld_engine.specs.Loading.{load, main_of};
+ghost use Rattle.ld_engine.specs.Loading.{load};
 ghost use Rattle.ld_report.specs.Entries.{fault_text};
+ghost use Rattle.ld_steps.specs.Laws.{AreSteps};
 ghost use Rattle.ld_words.specs.Shown.{options_shown};
-ghost use Rattle.ld_cmd.specs.Made.{Gives, Makes};
-ghost use Rattle.ld_cmd.specs.Output.{file_bytes, limits_of, loaded_by, main_output, model_output, queried_output};
+ghost use Rattle.ld_cmd.specs.Made.{Gives, Makes, queried_output};
+ghost use Rattle.ld_cmd.specs.Output.{answered_output, file_bytes, limits_of, loaded_by, main_file, main_output, model_output};
 ghost use Rattle.ld_cmd.specs.Written.{Output, shown_text};
-ghost use Rattle.ld_cmd.specs.Querying.{answer_queried};
+ghost use Rattle.ld_cmd.specs.Querying.{BeginsWith, IsFirst, answer_queried};
 
-use crate::answer::{Shown, print_answer};
+use crate::answer::{Form, make_answer};
 use crate::inputs::FILE_BYTES;
 use crate::lines::{about_file, about_limit};
 use crate::made::{Made, Stop};
@@ -23,7 +24,7 @@ use ld_colour::{Table, colour_of};
 use ld_engine::{Answer, AnswerError, Limits, LoadError, OpenError, Workspace};
 use ld_entry::Fault;
 use ld_io::Shelf;
-use ld_names::{FileId, Name};
+use ld_names::{FileId, Name, file_laws};
 use ld_report::print_fault;
 use ld_texts::Texts;
 use ld_words::Options;
@@ -49,9 +50,10 @@ pub(crate) fn limits_of(options: &Options) -> Limits
 }
 
 // What a model shows, by its name and its bytes.
+#[tactic(auto, unfolding(crate::specs::Output::model_output))]
 pub(crate) fn show_model<S: Shelf>(
     alloc: Global,
-    what: Shown,
+    what: Form,
     options: &Options,
     own: &Name,
     bytes: &[u8],
@@ -60,8 +62,7 @@ pub(crate) fn show_model<S: Shelf>(
 ) -> Result<Made, Stop>
     requires bounds { bad_limit (limits_of (options_shown options.now)) ≡ None }
     requires size { length bytes.now ≤ file_bytes }
-    ensures told { IfSome (S.files shelf.old) (λ files. Makes (model_output (shown_text what (counting table.now)) (options_shown options.now) files own.now bytes.now) result) }
-    ensures goes_on { result ≢ Err Stop.Usage }
+    ensures told { IfSome (S.files shelf.old) (λ files. Makes (model_output (answered_output what (counting table.now)) (options_shown options.now) files own.now bytes.now) result) }
     ensures cause { result ≡ Err Stop.ReadFault → HasRisen (S.faults shelf.old) (S.faults shelf.new) }
     ensures same { S.files shelf.new ≡ S.files shelf.old }
     ensures never_falls { S.faults shelf.old ≤ S.faults shelf.new }
@@ -97,8 +98,8 @@ pub(crate) fn load_model(
     requires size { length bytes.now ≤ workspace.old.limits.file_bytes }
     ensures limits { workspace.new.limits ≡ workspace.old.limits }
     ensures loaded { Gives (λ main. workspace.new.texts.known) (loaded_by (load workspace.old.limits [] (text_blocks own.now bytes.now))) result }
-    ensures main { IfOk result (λ main. main_of (text_blocks own.now bytes.now) ≡ Some main) }
-    ensures goes_on { result ≢ Err Stop.Usage }
+    ensures main { IfOk result (λ main. main_file own.now (text_blocks own.now bytes.now) ≡ main) }
+    ensures first { IfOk result (λ main. BeginsWith main (text_of own.now bytes.now) workspace.new.texts.known) }
     ensures no_fault { result ≢ Err Stop.ReadFault }
 {
     match workspace.load(own, bytes) {
@@ -110,7 +111,7 @@ pub(crate) fn load_model(
 
 fn show_main<S: Shelf>(
     alloc: Global,
-    what: Shown,
+    what: Form,
     options: &Options,
     workspace: &mut Workspace,
     main: &FileId,
@@ -118,12 +119,13 @@ fn show_main<S: Shelf>(
     shelf: &mut S,
 ) -> Result<Made, Stop>
     requires limits { workspace.old.limits ≡ limits_of (options_shown options.now) }
-    ensures told { IfSome (S.files shelf.old) (λ files. Makes (main_output (shown_text what (counting table.now)) (options_shown options.now) files (Some main.now) workspace.old.texts.known) result) }
-    ensures goes_on { result ≢ Err Stop.Usage }
+    requires first { IsFirst main.now workspace.old.texts.known }
+    ensures told { IfSome (S.files shelf.old) (λ files. Makes (main_output (answered_output what (counting table.now)) (options_shown options.now) files main.now workspace.old.texts.known) result) }
     ensures cause { result ≡ Err Stop.ReadFault → HasRisen (S.faults shelf.old) (S.faults shelf.new) }
     ensures same { S.files shelf.new ≡ S.files shelf.old }
     ensures never_falls { S.faults shelf.old ≤ S.faults shelf.new }
 {
+    file_laws();
     // Read here, so that the limit on entries is seen to be below 2^32.
     let _most = options.max_entries;
     let answer = ask(workspace, shelf, main, colour_of(options.main));
@@ -132,32 +134,26 @@ fn show_main<S: Shelf>(
 
 fn show_answer(
     alloc: Global,
-    what: Shown,
+    what: Form,
     texts: &Texts,
     table: &Table,
     answer: Result<Answer, AnswerError>,
 ) -> Result<Made, Stop>
-    requires { IfOk answer (λ answer. length answer.entries < 2 ^ 32) }
-    ensures shown { (wanted : Output) → IfSome (answer_queried answer) (λ given. queried_output (shown_text what (counting table.now)) texts.now.known given ≡ wanted) → Makes wanted result }
-    ensures goes_on { result ≢ Err Stop.Usage }
+    requires size { IfOk answer (λ answer. length answer.entries < 2 ^ 32) }
+    requires steps { IfOk answer (λ answer. AreSteps (length answer.entries) answer.steps) }
+    requires root { answer ≢ Err AnswerError.NoRoot }
+    ensures shown { (wanted : Output) → IfSome (answer_queried answer) (λ given. queried_output (answered_output what (counting table.now)) texts.now.known given ≡ Some wanted) → Makes wanted result }
     ensures fault { result ≡ Err Stop.ReadFault → answer ≡ Err AnswerError.ReadFault }
 {
     match answer {
-        Ok(answer) => Ok(Made {
-            text: print_answer(alloc, what, texts, table, &answer)?,
-            status: Status::Done,
-        }),
+        Ok(answer) => make_answer(alloc, what, texts, table, &answer),
         Err(AnswerError::Fault(fault)) => Ok(Made {
             text: fault_line(alloc, texts, &fault)?,
             status: Status::Faulted,
         }),
         Err(AnswerError::TooBig(file)) => Err(about_file(alloc, &file)),
         Err(AnswerError::Full(over)) => Err(about_limit(alloc, over)),
-        // The main model is always there.
-        Err(AnswerError::NoRoot) => Ok(Made {
-            text: Vec::new(alloc),
-            status: Status::Done,
-        }),
+        Err(AnswerError::NoRoot) => unreachable!(),
         Err(AnswerError::ReadFault) => Err(Stop::ReadFault),
         Err(AnswerError::Memory) => Err(Stop::Memory),
     }

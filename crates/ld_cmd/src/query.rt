@@ -1,13 +1,16 @@
 // Questions to the workspace, over the files of a shelf.
-ghost use Rattle.std.specs.Prelude.{◌≡◌, ◌≤◌, Err, IfOk, IfSome, length};
+ghost use Rattle.std.specs.Prelude.{◌≡◌, ◌≤◌, Err, IfOk, IfSome, None, Some, length};
 ghost use Rattle.ld_io.specs.Faults.{HasRisen};
-ghost use Rattle.ld_engine.specs.declared.asking.AnswerError.TheVariants.{ReadFault};
+ghost use Rattle.ld_engine.specs.declared.asking.AnswerError.TheVariants.{NoRoot, ReadFault};
+ghost use Rattle.ld_names.specs.Standing.{known_map};
+ghost use Rattle.ld_engine.specs.Learning.{LearnsFor};
+ghost use Rattle.ld_steps.specs.Laws.{AreSteps};
 ghost use Rattle.ld_cmd.specs.Playing.{edit_step};
 ghost use Rattle.ld_cmd.specs.Querying.{Queries, answer_queried};
 ghost use Rattle.ld_cmd.specs.Replying.{edit_given};
 
 use ld_colour::Colour;
-use ld_engine::{Answer, AnswerError, EditError, Workspace, root_law};
+use ld_engine::{Answer, AnswerError, EditError, Workspace, root_law, steps_law};
 use ld_entry::tint_law;
 use ld_io::Shelf;
 use ld_names::FileId;
@@ -21,14 +24,18 @@ pub(crate) fn ask<S: Shelf>(
     colour: Colour,
 ) -> Result<Answer, AnswerError>
     ensures limits { workspace.new.limits ≡ workspace.old.limits }
+    ensures learns { LearnsFor root.now workspace.old.texts.known workspace.new.texts.known }
+    ensures no_root { result ≡ Err NoRoot → known_map workspace.new.texts.known root.now ≡ Some None }
     ensures told { IfSome (S.files shelf.old) (λ files. IfSome (answer_queried result)
         (λ given. Queries workspace.old.limits files root.now colour workspace.old.texts.known workspace.new.texts.known given)) }
     ensures size { IfOk result (λ answer. length answer.entries ≤ workspace.old.limits.entries) }
+    ensures steps { IfOk result (λ answer. AreSteps (length answer.entries) answer.steps) }
     ensures cause { result ≡ Err ReadFault → HasRisen (S.faults shelf.old) (S.faults shelf.new) }
     ensures same { S.files shelf.new ≡ S.files shelf.old }
     ensures never_falls { S.faults shelf.old ≤ S.faults shelf.new }
 {
     root_law();
+    steps_law();
     tint_law();
     let result = workspace.answer(shelf, root, colour);
     // Its clauses say that no file is known twice.

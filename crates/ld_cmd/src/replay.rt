@@ -41,7 +41,14 @@ pub(crate) fn play<S: Shelf, K: Sink>(
         mut workspace,
         commands,
     } = session;
-    answer_all(alloc, &setting, commands.as_slice(), &mut workspace, shelf, out)
+    answer_all(
+        alloc,
+        &setting,
+        commands.as_slice(),
+        &mut workspace,
+        shelf,
+        out,
+    )
 }
 
 fn answer_all<S: Shelf, K: Sink>(
@@ -103,6 +110,5 @@ fn answer_command<S: Shelf, K: Sink>(
         Err(Stop::Decided(made)) => Err(put_last(out, made.text.as_slice(), made.status)),
         Err(Stop::ReadFault) => Err(Status::ReadFault),
         Err(Stop::Memory) => Err(Status::Memory),
-        Err(Stop::Usage) => unreachable!(),
     }
 }

@@ -34,7 +34,6 @@ pub(crate) fn reply<S: Shelf>(
     ensures limits { workspace.new.limits ≡ workspace.old.limits }
     ensures told { IfSome (S.files shelf.old)
         (λ files. Replies (step_of (setting_shown setting.now) files workspace.old.texts.known command.now) workspace.new.texts.known result) }
-    ensures goes_on { result ≢ Err Stop.Usage }
     ensures cause { result ≡ Err Stop.ReadFault → HasRisen (S.faults shelf.old) (S.faults shelf.new) }
     ensures same { S.files shelf.new ≡ S.files shelf.old }
     ensures never_falls { S.faults shelf.old ≤ S.faults shelf.new }
@@ -45,7 +44,15 @@ pub(crate) fn reply<S: Shelf>(
         Command::Edit(edit) => answer_edit(alloc, edit, workspace, shelf),
         Command::Ask(query, root) => {
             let (file, colour) = (root_of(setting, root), colour_number(setting, root));
-            answer_query(alloc, shown(*query), file, colour_of(colour), &setting.table, workspace, shelf)
+            answer_query(
+                alloc,
+                shown(*query),
+                file,
+                colour_of(colour),
+                &setting.table,
+                workspace,
+                shelf,
+            )
         }
         Command::Bad(_) => Ok(List::from_slice(alloc, b"refused script\n")?),
     }
@@ -60,7 +67,6 @@ fn answer_edit<S: Shelf>(
     ensures limits { workspace.new.limits ≡ workspace.old.limits }
     ensures told { IfSome (S.files shelf.old)
         (λ files. Replies (edit_step workspace.old.limits files workspace.old.texts.known edit.now) workspace.new.texts.known result) }
-    ensures goes_on { result ≢ Err Stop.Usage }
     ensures cause { result ≡ Err Stop.ReadFault → HasRisen (S.faults shelf.old) (S.faults shelf.new) }
     ensures same { S.files shelf.new ≡ S.files shelf.old }
     ensures never_falls { S.faults shelf.old ≤ S.faults shelf.new }
@@ -71,7 +77,6 @@ fn answer_edit<S: Shelf>(
 
 fn edit_reply(alloc: Global, edited: Result<(), EditError>) -> Result<Bytes, Stop>
     ensures reply { (wanted : Step) (known : Known) → IfSome (edit_given known edited) (λ given. given ≡ wanted) → Replies wanted known result }
-    ensures goes_on { result ≢ Err Stop.Usage }
     ensures fault { result ≡ Err Stop.ReadFault → edited ≡ Err EditError.ReadFault }
 {
     match edited {
@@ -118,7 +123,6 @@ fn answer_query<S: Shelf>(
     ensures limits { workspace.new.limits ≡ workspace.old.limits }
     ensures told { IfSome (S.files shelf.old)
         (λ files. Replies (query_step workspace.old.limits files workspace.old.texts.known what (counting table.now) root.now colour) workspace.new.texts.known result) }
-    ensures goes_on { result ≢ Err Stop.Usage }
     ensures cause { result ≡ Err Stop.ReadFault → HasRisen (S.faults shelf.old) (S.faults shelf.new) }
     ensures same { S.files shelf.new ≡ S.files shelf.old }
     ensures never_falls { S.faults shelf.old ≤ S.faults shelf.new }
@@ -136,7 +140,6 @@ fn answer_reply(
 ) -> Result<Bytes, Stop>
     requires { IfOk answer (λ answer. length answer.entries < 2 ^ 32) }
     ensures reply { (wanted : Step) → IfSome (answer_queried answer) (λ given. query_reply what (counting table.now) texts.now.known given ≡ wanted) → Replies wanted texts.now.known result }
-    ensures goes_on { result ≢ Err Stop.Usage }
     ensures fault { result ≡ Err Stop.ReadFault → answer ≡ Err AnswerError.ReadFault }
 {
     match answer {

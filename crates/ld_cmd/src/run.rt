@@ -1,7 +1,8 @@
 ghost use Rattle.std.specs.Prelude.{◌≡◌, ◌≢◌, ◌≤◌, ◌∷◌, [], IfSome, None, Some, is_some, map, string_bytes};
 ghost use Rattle.ld_io.specs.Faults.{HasRisen};
 ghost use Rattle.ld_cmd.specs.Ending.{EndsAs, IsComplete, PutsOnce, StandsInFront, Takes, TakesNothing, UsageIsExact};
-ghost use Rattle.ld_cmd.specs.Output.{output, request_of, usage_line};
+ghost use Rattle.ld_cmd.specs.Output.{output, usage_line};
+ghost use Rattle.ld_words.specs.Words.{intent_of};
 
 use crate::made::Stop;
 use crate::make::make_work;
@@ -10,6 +11,7 @@ use crate::replay::play;
 use crate::session::Work;
 use crate::status::Status;
 use ld_io::{Shelf, Sink};
+use ld_words::is_command;
 use std::alloc::Global;
 
 const USAGE: &[u8] =
@@ -31,14 +33,14 @@ pub fn run<S: Shelf, K: Sink>(alloc: Global, words: &[String], shelf: &mut S, ou
         (λ before. IsComplete result (output (map string_bytes words.now) files) before (K.taken out.new))) }
 
     // Over every shelf, words outside the grammar and no others give the usage line.
-    ensures usage { UsageIsExact (request_of (map string_bytes words.now)) result }
-    ensures usage_taken { request_of (map string_bytes words.now) ≡ None → IfSome (K.taken out.old)
+    ensures usage { UsageIsExact (intent_of (map string_bytes words.now)) result }
+    ensures usage_taken { intent_of (map string_bytes words.now) ≡ None → IfSome (K.taken out.old)
         (λ before. Takes result (usage_line ∷ []) before (K.taken out.new)) }
 
     ensures read_cause { result ≡ Status.ReadFault → HasRisen (S.faults shelf.old) (S.faults shelf.new) }
     ensures write_cause { result ≡ Status.WriteFault → HasRisen (K.faults out.old) (K.faults out.new) }
     // Nothing but a script's replies is taken where reading or memory stopped the run.
-    ensures nothing { PutsOnce (request_of (map string_bytes words.now)) → IfSome (K.taken out.old)
+    ensures nothing { PutsOnce (intent_of (map string_bytes words.now)) → IfSome (K.taken out.old)
         (λ before. TakesNothing result before (K.taken out.new)) }
     ensures in_front { IfSome (K.taken out.old) (λ before. StandsInFront before (K.taken out.new)) }
 
@@ -47,12 +49,14 @@ pub fn run<S: Shelf, K: Sink>(alloc: Global, words: &[String], shelf: &mut S, ou
     ensures shelf_faults { S.faults shelf.old ≤ S.faults shelf.new }
     ensures sink_faults { K.faults out.old ≤ K.faults out.new }
 {
+    if !is_command(words) {
+        return put_last(out, USAGE, Status::Usage);
+    }
     match make_work(alloc, words, shelf) {
         Ok(Work::Write(made)) | Err(Stop::Decided(made)) => {
             put_last(out, made.text.as_slice(), made.status)
         }
         Ok(Work::Play(session)) => play(alloc, session, shelf, out),
-        Err(Stop::Usage) => put_last(out, USAGE, Status::Usage),
         Err(Stop::ReadFault) => Status::ReadFault,
         Err(Stop::Memory) => Status::Memory,
     }

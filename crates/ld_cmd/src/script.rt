@@ -30,7 +30,6 @@ pub(crate) fn open_replay<S: Shelf>(
 ) -> Result<Session, Stop>
     requires bounds { bad_limit (limits_of (options_shown options.now)) ≡ None }
     ensures told { IfSome (S.files shelf.old) (λ files. Opens (replay_output file.now script.now (options_shown options.now) files) files result) }
-    ensures goes_on { result ≢ Err Stop.Usage }
     ensures cause { result ≡ Err Stop.ReadFault → HasRisen (S.faults shelf.old) (S.faults shelf.new) }
     ensures same { S.files shelf.new ≡ S.files shelf.old }
     ensures never_falls { S.faults shelf.old ≤ S.faults shelf.new }
@@ -59,6 +58,7 @@ pub(crate) fn open_replay<S: Shelf>(
 }
 
 // A model is loaded, and its script is read.
+#[tactic(auto, unfolding(crate::specs::Output::replayed))]
 fn open_session(
     alloc: Global,
     options: &Options,
@@ -71,7 +71,6 @@ fn open_session(
     requires size { length bytes.now ≤ file_bytes }
     requires script_size { length lines.now ≤ file_bytes }
     ensures opens { (files : Files) → Opens (replayed (options_shown options.now) (counting table) (commands_of lines.now) files own.now bytes.now) files result }
-    ensures goes_on { result ≢ Err Stop.Usage }
     ensures no_fault { result ≢ Err Stop.ReadFault }
 {
     let commands = read_script(alloc, lines)?;

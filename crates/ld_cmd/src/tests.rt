@@ -77,7 +77,7 @@ fn answers_over_files_in_memory(rt: HostRuntime) -> Result<(), Fail> {
     Ok(())
 }
 
-// Words that are no command, or one that isn't answered yet, a list a line; the first list has none.
+// Words that are no command, a list a line; the first list has none.
 const FAULTY: &str = "
 faces
 faces m.ldr --workers 0
@@ -89,8 +89,7 @@ faces m.ldr --main=4
 faces a/b/My Car.LDR
 gen 0
 help
-inline m.ldr
-check m.ldr
+inline
 replay m.ldr";
 
 const USAGE: &str =
@@ -194,7 +193,8 @@ fn the_outside_fails(rt: HostRuntime) -> Result<(), Fail> {
 
 const SCRIPT: &str = "new\tmodel\tm.ldr\nfaces\nparts";
 
-const REPLIES: &str = "0 4 3 refused filethere\npart 16 - parts/x.dat at model/m.ldr:1\ndone\n1 16 parts/x.dat\ndone\n";
+const REPLIES: &str =
+    "0 4 3 refused filethere\npart 16 - parts/x.dat at model/m.ldr:1\ndone\n1 16 parts/x.dat\ndone\n";
 
 // The replies before a fault stand, each whole.
 #[test]

@@ -555,4 +555,78 @@ done
 6 junk
 ~3
 absent gone.txt
+@inline m.ldr
+^work m.ldr
+0 FILE m.ldr
+0 BFC CERTIFY CW
+0 BFC CERTIFY CCW
+3 16 0 0 0 1 0 0 0 1 0
+0 BFC CCW NOCLIP
+0 BFC NOCLIP
+1 16 0 0 0 1 0 0 0 1 0 0 0 1 t.ldr
+0 FILE t.ldr
+0 BFC CERTIFY CCW
+3 16 0 0 0 1 0 0 0 1 0
+~0
+0 BFC CERTIFY CCW\r
+3 16 0 1 0 1 0 0 0 0 0\r
+0 BFC NOCLIP\r
+3 16 0 0 0 1 0 0 0 1 0\r
+0 STEP\r
+@inline m.ldr
+^work m.ldr
+0 FILE m.ldr
+1 4 0 0 0 1 0 0 0 1 0 0 0 1 a.ldr
+1 1 0 0 0 1 0 0 0 1 0 0 0 1 b.ldr
+0 FILE a.ldr
+1 24 0 0 0 1 0 0 0 1 0 0 0 1 b.ldr
+0 FILE b.ldr
+2 16 0 0 0 1 0 0
+2 24 0 0 0 1 0 0
+~1
+nocolour 4
+@check bad.dat
+^work bad.dat
+0 Bad part
+0 Name: other.dat
+0 Author: A Builder
+0 !LDRAW_ORG Unofficial_Part
+0 !LICENSE Example licence
+0 !HISTORY 2024-01-01 [a] first
+0 BFC CERTIFY CCW
+3 16 0 0 0 1 1 1 2 2 2
+4 16 0 0 0 1 0 0 0 1 0 1 1 0
+4 16 0 0 0 1 0 0 1 1 0 0 1 1
+1 16 0 0 0 1 0 0 0 1 0 0 0 0 x.dat
+2 16 0 0 0 1 0 0
+2 16 0 0 0 1 0 0
+3 16 0 0 0 0 0 0 1 0 0
+6 junk
+~1
+2 103
+7 108
+8 302
+9 304
+10 303
+11 305
+12 308
+13 306
+13 308
+14 301
+14 302
+15 201
+@check p.dat
+^work p.dat
+0 Plate
+0 Name: p.dat
+0 Author: A Builder
+0 !LDRAW_ORG Unofficial_Part
+0 !LICENSE Example licence
+0 BFC CERTIFY CCW
+2 24 0 0 0 1 0 0
+~0
+@check p.dat --colours gone.ldr
+^work p.dat
+~3
+absent gone.ldr
 ";

@@ -1,18 +1,25 @@
 use Rattle.std.proofs.Common.{map, string_bytes}
 use Rattle.ld_cmd.specs.Output.{output}
-use Rattle.ld_cmd.proofs.Endings.{complete_where_told, usage_ends, usage_takes}
+use Rattle.ld_cmd.proofs.Endings.{complete_where_told, usage_ends, usage_takes, usage-told}
 use Rattle.ld_cmd.proofs.run.run.Goals as goal
 
-pub returns-in-Err-Usage-clause-taken : goal.returns-in-Err-Usage-clause-taken
-returns-in-Err-Usage-clause-taken g c =
-    usage_takes c.put_last.result (output (map string_bytes c.args.words.now)) (g.S.Shelf.files c.args.shelf.now) (g.K.Sink.taken c.args.out.now) (g.K.Sink.taken c.put_last.new.out) (rw c.in-Err-Usage.field-0-is at c.in-Err-Usage.ensures.told) c.put_last.ensures.taken
-
-pub returns-in-Err-Usage-clause-complete : goal.returns-in-Err-Usage-clause-complete
-returns-in-Err-Usage-clause-complete g c = λ read written.
-    let wanted = output (map string_bytes c.args.words.now) in
+pub returns-then-not-is_command-clause-status : goal.returns-then-not-is_command-clause-status
+returns-then-not-is_command-clause-status g c =
+    let words = map string_bytes c.args.words.now in
     let files = g.S.Shelf.files c.args.shelf.now in
-    let before = g.K.Sink.taken c.args.out.now in
-    let after = g.K.Sink.taken c.put_last.new.out in
-    let ends = usage_ends c.put_last.result wanted files (rw c.in-Err-Usage.field-0-is at c.in-Err-Usage.ensures.told) c.put_last.ensures.status in
-    let takes = usage_takes c.put_last.result wanted files before after (rw c.in-Err-Usage.field-0-is at c.in-Err-Usage.ensures.told) c.put_last.ensures.taken in
-    complete_where_told c.put_last.result wanted files before after ends takes c.put_last.ensures.never_read (λ is. written (c.put_last.ensures.cause is))
+    usage_ends c.put_last.result (output words) files (usage-told words files c.is_command.result c.is_command.ensures c.if-not-is_command.true) c.put_last.ensures.status
+
+pub returns-then-not-is_command-clause-taken : goal.returns-then-not-is_command-clause-taken
+returns-then-not-is_command-clause-taken g c =
+    let words = map string_bytes c.args.words.now in
+    let files = g.S.Shelf.files c.args.shelf.now in
+    usage_takes c.put_last.result (output words) files (g.K.Sink.taken c.args.out.now) (g.K.Sink.taken c.put_last.new.out) (usage-told words files c.is_command.result c.is_command.ensures c.if-not-is_command.true) c.put_last.ensures.taken
+
+pub returns-then-not-is_command-clause-complete : goal.returns-then-not-is_command-clause-complete
+returns-then-not-is_command-clause-complete g c = λ read written.
+    let words = map string_bytes c.args.words.now in
+    let files = g.S.Shelf.files c.args.shelf.now in
+    let usage = usage-told words files c.is_command.result c.is_command.ensures c.if-not-is_command.true in
+    let ends = usage_ends c.put_last.result (output words) files usage c.put_last.ensures.status in
+    let takes = usage_takes c.put_last.result (output words) files (g.K.Sink.taken c.args.out.now) (g.K.Sink.taken c.put_last.new.out) usage c.put_last.ensures.taken in
+    complete_where_told c.put_last.result (output words) files (g.K.Sink.taken c.args.out.now) (g.K.Sink.taken c.put_last.new.out) ends takes c.put_last.ensures.never_read (λ is. written (c.put_last.ensures.cause is))
