@@ -2,6 +2,7 @@ pub mod Findings
 pub mod Geometry
 pub mod Header
 pub mod Inside
+pub mod Laws
 pub mod Lines
 pub mod Order
 pub mod Rows

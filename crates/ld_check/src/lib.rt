@@ -6,6 +6,7 @@ mod drawing;
 mod finding;
 mod geometry;
 mod header;
+mod laws;
 mod order;
 mod passed;
 mod said;
@@ -15,3 +16,4 @@ mod vector;
 
 pub use checking::check;
 pub use finding::Finding;
+pub use laws::findings_law;
