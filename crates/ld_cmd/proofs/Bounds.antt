@@ -1,5 +1,5 @@
 -- The limits of words in the grammar are those of a workspace.
-use Rattle.std.proofs.Common.{◌≡◌, ◌≤◌, ◌&&◌, ℕ, Bool, true, false, None, ap, refl, ◌∙◌}
+use Rattle.std.proofs.Common.{◌≡◌, ◌&&◌, ℕ, Bool, true, false, None, refl}
 use Rattle.std.proofs.lemmas.Bool.{le-leb}
 use Rattle.ld_engine.specs.Limits.{bad_limit, is_between}
 use Rattle.ld_words.specs.Words.{Intent, IsBetween, IsBounded}

@@ -1,5 +1,5 @@
 -- Complete runs, and runs that end with the usage line.
-use Rattle.std.proofs.Common.{◌≡◌, ℕ, List, [], ◌∷◌, Bool, true, false, not, is_some, Option, Some, None, IfSome, refl, ap, sym, subst, inl, inr}
+use Rattle.std.proofs.Common.{◌≡◌, ℕ, List, [], ◌∷◌, Bool, true, false, is_some, Option, Some, None, IfSome, refl, ap, sym, subst, inl, inr}
 use Rattle.ld_io.specs.Shelf.{Files}
 use Rattle.ld_cmd.specs.declared.status.Status.{Status}
 use Rattle.ld_cmd.specs.declared.status.Status.TheVariants.{Done, Faulted, Usage, Input, ReadFault, WriteFault, Memory, Limit}

@@ -1,5 +1,5 @@
 -- The main model is the first of the known texts, whatever else is learnt.
-use Rattle.std.proofs.Common.{◌≡◌, ◌++◌, ◌∷◌, ◌*◌, ◌+◌, ◌≤◌, ◌<◌, ◌^◌, ℕ, Bool, List, [], length, Option, Some, None, Result, Ok, Err, true, false, cond, ap, refl, sym, subst, ◌∙◌, append_assoc, append-nil, arith, sum_by, tests}
+use Rattle.std.proofs.Common.{◌≡◌, ◌++◌, ◌∷◌, ◌*◌, ◌+◌, ◌≤◌, ◌<◌, ◌^◌, ℕ, List, [], length, Option, Some, None, Ok, true, ap, refl, sym, ◌∙◌, append_assoc, append-nil, arith, tests}
 use Rattle.std.proofs.lemmas.List.Sums.{sum_by-cons}
 use Rattle.ld_mpd.specs.Blocks.{first_lines, text_blocks, text_of}
 use Rattle.ld_names.specs.Standing.{Known, Text, file_in, known_map, same_file}

@@ -1,5 +1,5 @@
 -- The output of a model and of a script, by what is read and loaded for it.
-use Rattle.std.proofs.Common.{◌≡◌, ◌∙◌, List, [], ℕ, Bool, true, Option, Some, None, Result, Ok, Err, IfSome, ap, sym, refl, subst}
+use Rattle.std.proofs.Common.{◌≡◌, List, [], ℕ, Option, Some, None, Result, Ok, IfSome, sym, refl}
 use Rattle.ld_io.specs.Shelf.{Files}
 use Rattle.ld_io.specs.declared.shelf.Place.TheVariants.{Work}
 use Rattle.ld_colour.specs.Table.{Counting}

@@ -1,16 +1,15 @@
 -- What a workspace answers is what the query comes to over the texts as they stand.
-use Rattle.std.proofs.Common.{◌≡◌, ℕ, List, Option, Some, None, Result, Ok, Err, IfSome, refl, ap, sym, subst, ◌∙◌}
+use Rattle.std.proofs.Common.{◌≡◌, ℕ, List, Option, Some, None, Result, Ok, Err, IfSome, refl, ap, sym, ◌∙◌}
 use Rattle.ld_io.specs.Shelf.{Files}
-use Rattle.ld_names.specs.Standing.{Known, Text, known_map}
+use Rattle.ld_names.specs.Standing.{Known, known_map}
 use Rattle.ld_names.specs.Finding.{IsFileEquality}
 use Rattle.ld_names.specs.declared.file.FileId.{FileId}
 use Rattle.ld_texts.specs.Known.{AreDistinct, id_of}
-use Rattle.ld_texts.specs.Reach.{wanted}
 use Rattle.ld_colour.specs.declared.colour.Colour.{Colour}
 use Rattle.ld_entry.specs.declared.entry.Fault.{Fault as LineFault}
 use Rattle.ld_engine.specs.Asking.{Answers, AnswersTold, IsAnswered}
 use Rattle.ld_engine.specs.Laws.{StandsForRoots}
-use Rattle.ld_engine.specs.Learning.{Learnt, Stop, learning, learnt, stopped, text_on}
+use Rattle.ld_engine.specs.Learning.{Stop, learning, learnt, text_on}
 use Rattle.ld_engine.specs.declared.asking.Answer.{Answer}
 use Rattle.ld_engine.specs.declared.asking.AnswerError.{AnswerError}
 use Rattle.ld_engine.specs.declared.asking.AnswerError.TheVariants.{Fault, ReadFault, TooBig, Full, NoRoot, Memory}
@@ -22,7 +21,6 @@ use Rattle.ld_cmd.specs.Made.{queried_output}
 use Rattle.ld_cmd.specs.Output.{learnt_output, limits_of, main_output, shown_or_fault}
 use Rattle.ld_cmd.proofs.First.{first-numbered, first-there}
 use Rattle.ld_cmd.specs.Querying.{IsFirst, Queried, Queries, answer_at, answer_queried, answered_as, queried, queried_on, where_there}
-use Rattle.ld_cmd.specs.Querying as query
 
 module _ (limits : Limits) (files : Files) (root : FileId) (colour : Colour) (old new : Known) (stands : StandsForRoots) (distinct : AreDistinct new) where
   answered : (given : Result Answer LineFault) → learning limits files root old ≡ learnt new → IsAnswered limits root colour new given → Queries limits files root colour old new (answered_as given)

@@ -5,7 +5,7 @@ use Rattle.ld_names.specs.Standing.{Known}
 use Rattle.ld_names.specs.declared.file.FileId.{FileId}
 use Rattle.ld_names.specs.declared.file.TextId.{TextId}
 use Rattle.ld_colour.specs.declared.colour.Colour.{Colour}
-use Rattle.ld_entry.specs.Answers.{answer, answer_by, unless_too_many}
+use Rattle.ld_entry.specs.Answers.{answer, unless_too_many}
 use Rattle.ld_entry.specs.Laws.{TintLaw}
 use Rattle.ld_entry.specs.NumberedTexts.{known_texts, NumberedTexts}
 use Rattle.ld_entry.specs.declared.entry.Entry.{Entry}

@@ -1,5 +1,5 @@
 -- What a command gives, by what a workspace answers.
-use Rattle.std.proofs.Common.{◌≡◌, List, Option, Some, None, Result, Ok, Err, IfSome, ap, sym, ◌∙◌, codes}
+use Rattle.std.proofs.Common.{◌≡◌, Option, Some, None, Result, Ok, Err, IfSome, ap, sym, ◌∙◌, codes}
 use Rattle.ld_io.specs.Shelf.{Files}
 use Rattle.ld_names.specs.Standing.{Known}
 use Rattle.ld_names.specs.declared.file.FileId.{FileId}

@@ -1,5 +1,5 @@
 -- What the code's values say.
-use Rattle.std.specs.Prelude.{◌≡◌, ℕ, List, Option, Some, None, Result, Ok, Err}
+use Rattle.std.specs.Prelude.{◌≡◌, Option, Some, None, Result, Ok, Err}
 use Rattle.ld_cmd.specs.Written.{Output, one_piece, stop_text}
 use Rattle.ld_cmd.specs.Querying.{Queried, Stops as Stopped, NoRoot, Faulted, Answered}
 use Rattle.ld_engine.specs.declared.asking.Answer.{Answer}

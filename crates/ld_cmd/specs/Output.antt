@@ -1,5 +1,5 @@
 -- What a run writes and how it ends (this project's own).
-use Rattle.std.specs.Prelude.{ℕ, Bool, true, false, nat_lt, List, [], ◌∷◌, ◌++◌, length, Option, Some, None, Result, Ok, Err, codes, decimal, if◌then◌else◌, ◌==◌, ◌||◌}
+use Rattle.std.specs.Prelude.{ℕ, Bool, nat_lt, List, [], ◌∷◌, ◌++◌, length, Option, Some, None, Result, Ok, Err, codes, decimal, if◌then◌else◌, ◌==◌, ◌||◌}
 use Rattle.std.specs.List.{list_any}
 use Rattle.ld_io.specs.Shelf.{Files}
 use Rattle.ld_io.specs.declared.shelf.Place.TheVariants.{Work}
@@ -14,7 +14,6 @@ use Rattle.ld_check.specs.declared.finding.Finding.{Finding}
 use Rattle.ld_inline.specs.Text.{inlined_text}
 use Rattle.ld_report.specs.Findings.{findings_text}
 use Rattle.ld_texts.specs.declared.change.Over.{Over}
-use Rattle.ld_texts.specs.declared.change.Over.TheVariants as over
 use Rattle.ld_colour.specs.Colour.{colour_of}
 use Rattle.ld_colour.specs.Table.{Counting, table_in}
 use Rattle.ld_engine.specs.Learning.{Stop, learning}
@@ -22,19 +21,14 @@ use Rattle.ld_engine.specs.Loading.{Blocks, load}
 use Rattle.ld_engine.specs.declared.asking.Answer.{Answer}
 use Rattle.ld_entry.specs.declared.entry.Fault.{Fault}
 use Rattle.ld_engine.specs.declared.limits.Limits.{Limits}
-use Rattle.ld_report.specs.Entries.{entries_text, fault_text}
-use Rattle.ld_report.specs.Parts.{parts_of, parts_text}
-use Rattle.ld_report.specs.Pieces.{file_text}
-use Rattle.ld_report.specs.Steps.{steps_text}
+use Rattle.ld_report.specs.Entries.{fault_text}
 use Rattle.ld_words.specs.Words.{Intent, Options, Task, Show, Replay, Generate, intent_of}
 use Rattle.ld_words.specs.declared.listing.Listing.{Listing}
 use Rattle.ld_words.specs.declared.listing.Listing.TheVariants as listing
-use Rattle.ld_cmd.specs.Generator.{generated, summary_text}
+use Rattle.ld_cmd.specs.Generator.{generated}
 use Rattle.ld_cmd.specs.declared.answer.Form.{Form}
 use Rattle.ld_cmd.specs.declared.answer.Form.TheVariants.{Listed, Inlined}
-use Rattle.ld_cmd.specs.declared.answer.Shown.{Shown}
 use Rattle.ld_cmd.specs.declared.answer.Shown.TheVariants.{Faces, Steps, Parts, Summary}
-use Rattle.ld_cmd.specs.declared.status.Status.{Status}
 use Rattle.ld_cmd.specs.declared.status.Status.TheVariants as status
 use Rattle.ld_script.specs.Script.{commands_of}
 use Rattle.ld_script.specs.declared.command.Command.{Command}

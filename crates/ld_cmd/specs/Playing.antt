@@ -11,7 +11,7 @@ use Rattle.ld_colour.specs.Colour.{colour_of}
 use Rattle.ld_colour.specs.Table.{Counting}
 use Rattle.ld_colour.specs.declared.colour.Colour.{Colour}
 use Rattle.ld_engine.specs.Editing.{edit_learning}
-use Rattle.ld_engine.specs.Learning.{Learnt, Stop, learning}
+use Rattle.ld_engine.specs.Learning.{Stop, learning}
 use Rattle.ld_engine.specs.declared.limits.Limits.{Limits}
 use Rattle.ld_report.specs.Entries.{fault_text}
 use Rattle.ld_script.specs.declared.command.Command.{Command}

@@ -1,4 +1,4 @@
-use Rattle.std.proofs.Common.{◌≡◌, ◌≤◌, ◌∙◌, ◌+◌, ◌<◌, ap, length, arith}
+use Rattle.std.proofs.Common.{◌≡◌, ◌≤◌, ◌∙◌, ap, length, arith}
 use Rattle.ld_mpd.specs.Blocks.{text_of}
 use Rattle.ld_engine.specs.declared.limits.Limits.{Limits}
 use Rattle.ld_texts.specs.Known.{weight_of}

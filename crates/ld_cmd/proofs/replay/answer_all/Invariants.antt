@@ -1,5 +1,4 @@
 use Rattle.std.proofs.Common.{◌≡◌, ◌≤◌, ℕ, List, Option, IfSome, is_some, length}
-use Rattle.ld_io.specs.Shelf.{Files}
 use Rattle.ld_cmd.specs.Ending.{StandsInFront}
 use Rattle.ld_cmd.specs.Leaving.{Leaves}
 use Rattle.ld_cmd.specs.Playing.{played}
