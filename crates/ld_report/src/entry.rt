@@ -16,8 +16,8 @@ use ld_num::Point;
 use ld_texts::Texts;
 use std::alloc::AllocError;
 
-// About what an entry's line takes.
-const LINE_BYTES: usize = 96;
+// What an entry's line mostly takes.
+const LINE_BYTES: usize = 128;
 
 // Named where entries are moved: the prover looks for the types inside them among those named.
 pub(crate) const NO_POINTS: [Point; 0] = [];

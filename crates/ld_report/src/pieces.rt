@@ -95,6 +95,11 @@ pub(crate) fn print_number(number: u64, into: &mut Vec<u8>) -> Result<(), AllocE
     ensures ok { OnOk result (into.new.items ≡ into.old.items ++ decimal number) }
     ensures keeps { Extends into.old.items into.new.items }
 {
+    // Most codes of colours have one digit.
+    if number < 10 {
+        into.push(b'0' + number as u8)?;
+        return Ok(());
+    }
     into.extend_from_slice(Buffer::new().format(number).as_bytes())
 }
 
