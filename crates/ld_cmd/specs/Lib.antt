@@ -7,4 +7,5 @@ pub mod Output
 pub mod Playing
 pub mod Querying
 pub mod Replying
+pub mod Rows
 pub mod Written

@@ -2,6 +2,7 @@
 ghost use Rattle.std.specs.Prelude.{◌≡◌, [], ◌∷◌, None, codes};
 ghost use Rattle.ld_cmd.specs.Folders.{model_folder};
 ghost use Rattle.ld_cmd.specs.Output.{output, usage};
+ghost use Rattle.ld_cmd.specs.Rows.{edited_model, edits_output};
 ghost use Rattle.ld_cmd.specs.Written.{one_piece};
 ghost use Rattle.ld_cmd.specs.declared.status.Status.TheVariants.{Input};
 
@@ -301,6 +302,7 @@ fn the_greatest_file(rt: HostRuntime) -> Result<(), Fail> {
 fn outputs_by_definition()
     ensures usage { output (codes "faces" ∷ []) (λ place name. None) ≡ usage }
     ensures absent { output (codes "faces" ∷ codes "gone.ldr" ∷ []) (λ place name. None) ≡ one_piece (codes "absent gone.ldr\n") Input }
+    ensures edits { output (codes "replay" ∷ codes "m" ∷ codes "s" ∷ []) edited_model ≡ edits_output }
     ensures folder { model_folder (codes "faces" ∷ codes "a/b/m.ldr" ∷ []) ≡ codes "a/b" }
     ensures root { model_folder (codes "faces" ∷ codes "/m.ldr" ∷ []) ≡ codes "/" }
 {}
