@@ -7,9 +7,11 @@ ghost use Rattle.ld_cmd.specs.Written.{one_piece};
 ghost use Rattle.ld_cmd.specs.declared.status.Status.TheVariants.{Input};
 
 mod cases;
+mod inlined;
 
 use crate::folders::{Unusable, library_folder, model_folder};
 use crate::tests::cases::CASES;
+use crate::tests::inlined::INLINED;
 use crate::{Status, run};
 use ld_io::{MemShelf, MemSink, Place, SureShelf, SureSink};
 use std::alloc::{AllocError, Global};
@@ -58,22 +60,36 @@ fn told(alloc: Global, line: &str, files: &str) -> Result<(Status, SureSink), Al
     Ok((status, sink))
 }
 
+// Whether a case's words give what it wants over its files.
+fn gives(alloc: Global, case: &str) -> Result<bool, AllocError> {
+    let Some((given, wanted)) = case.split_once('~') else {
+        return Ok(false);
+    };
+    let Some((line, files)) = given.split_once('\n') else {
+        return Ok(false);
+    };
+    let Some((number, bytes)) = wanted.split_once('\n') else {
+        return Ok(false);
+    };
+    let (status, sink) = told(alloc, line, files)?;
+    let status = format!(in alloc; "{}", status.number())?;
+    Ok(sink.bytes() == bytes.as_bytes() && status.as_str() == number)
+}
+
 #[test]
 fn answers_over_files_in_memory(rt: HostRuntime) -> Result<(), Fail> {
     for case in CASES.split('@').skip(1) {
-        let Some((given, wanted)) = case.split_once('~') else {
-            return Err(Fail::from("a case"));
-        };
-        let Some((line, files)) = given.split_once('\n') else {
-            return Err(Fail::from("a case's words"));
-        };
-        let Some((number, bytes)) = wanted.split_once('\n') else {
-            return Err(Fail::from("a case's status"));
-        };
-        let (status, sink) = told(rt.alloc(), line, files)?;
-        assert_eq!(rt; sink.bytes(), bytes.as_bytes(), "{given}");
-        let status = format!(in rt.alloc(); "{}", status.number())?;
-        assert_eq!(rt; status.as_str(), number, "{given}");
+        let is_given = gives(rt.alloc(), case)?;
+        assert!(rt; is_given, "{case}");
+    }
+    Ok(())
+}
+
+#[test]
+fn inlined_texts_are_read_again(rt: HostRuntime) -> Result<(), Fail> {
+    for case in INLINED.split('@').skip(1) {
+        let is_given = gives(rt.alloc(), case)?;
+        assert!(rt; is_given, "{case}");
     }
     Ok(())
 }
