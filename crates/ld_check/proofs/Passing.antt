@@ -9,7 +9,7 @@ use Rattle.std.proofs.lemmas.Option.{get_or_from_slice_get, slice_get_within}
 use Rattle.ld_line.specs.Reading.{line_of}
 use Rattle.ld_check.specs.Inside.Drawn.{HasDrawn}
 use Rattle.ld_check.specs.Inside.Passing.{IsPassed, header_rank}
-use Rattle.ld_check.specs.Inside.Ranking.{IsHigher, place_of}
+use Rattle.ld_check.specs.Inside.Ranking.{IsHigher, place_of_rank}
 use Rattle.ld_check.specs.Order.{is_below, is_body, is_statement, rank_of}
 use Rattle.ld_check.specs.Text.{said}
 use Rattle.ld_check.specs.declared.order.Rank.{Rank}
@@ -68,7 +68,7 @@ chosen false body is own none other = refl
 -- one line more is passed
 pub passed_more : (old new : Passed) (lines : List (List ℕ)) (bytes : List ℕ) (number : ℕ) (rank : Option Rank) (drawn : HasDrawn new.drawings (lines ++ bytes ∷ []))
     → length lines + 1 ≡ number
-    → place_of rank ≡ header_rank number old bytes (line_of bytes)
+    → place_of_rank rank ≡ header_rank number old bytes (line_of bytes)
     → new.has_body ≡ (old.has_body || is_body (line_of bytes))
     → new.has_statement ≡ (old.has_statement || is_statement (line_of bytes))
     → IsHigher old.highest rank new.highest
@@ -80,6 +80,6 @@ passed_more old new lines bytes number rank drawn size own body statement higher
   highest = λ none r.
       let was : old.has_body ≡ false = or_left old.has_body (is_body (line_of bytes)) (sym body ∙ none) in
       let is : is_body (line_of bytes) ≡ false = or_right old.has_body (is_body (line_of bytes)) (sym body ∙ none) in
-      higher r ∙ ap (λ b. b || is_below r (place_of rank)) (passed.highest was r) ∙ ap (λ place. list_any (λ earlier. is_below r (rank_of earlier)) (drop 5 lines) || is_below r place) (own ∙ chosen (nat_lt 5 number) old.has_body (is_body (line_of bytes)) (rank_of bytes) was is) ∙ sym (ranks lines bytes number size r (nat_lt 5 number) refl);
+      higher r ∙ ap (λ b. b || is_below r (place_of_rank rank)) (passed.highest was r) ∙ ap (λ place. list_any (λ earlier. is_below r (rank_of earlier)) (drop 5 lines) || is_below r place) (own ∙ chosen (nat_lt 5 number) old.has_body (is_body (line_of bytes)) (rank_of bytes) was is) ∙ sym (ranks lines bytes number size r (nat_lt 5 number) refl);
   drawn = drawn;
 }

@@ -9,7 +9,7 @@ use Rattle.ld_check.specs.Geometry.{has_equal_points, is_bent_quad, is_straight_
 use Rattle.ld_check.specs.Header.{is_misnamed, lacks_author, lacks_description, lacks_license, lacks_name, lacks_part_type}
 use Rattle.ld_check.specs.Lines.{has_more_fields, is_edge_off_24, is_face_in_24, is_malformed, is_out_of_range, is_repeated, is_singular_reference, is_unnamed}
 use Rattle.ld_check.specs.Order.{is_out_of_order, lacks_statement}
-use Rattle.ld_check.specs.Text.{line_at, passes, said}
+use Rattle.ld_check.specs.Text.{numbered_line, passes, said}
 use Rattle.ld_check.specs.declared.finding.Finding.{Finding}
 
 -- a rule by its number, and whether it holds
@@ -27,18 +27,18 @@ rules_at file lines number =
     ∷ (106, lacks_license lines number)
     ∷ (107, lacks_statement lines number)
     ∷ (108, is_out_of_order lines number)
-    ∷ (201, passes (said is_malformed) (line_at lines number))
-    ∷ (202, passes (said is_out_of_range) (line_at lines number))
-    ∷ (203, passes (said is_unnamed) (line_at lines number))
-    ∷ (301, passes (said has_equal_points) (line_at lines number))
-    ∷ (302, passes (said is_straight_triangle) (line_at lines number))
-    ∷ (303, passes (said is_bent_quad) (line_at lines number))
-    ∷ (304, passes (said is_uneven_quad) (line_at lines number))
-    ∷ (305, passes (said is_singular_reference) (line_at lines number))
+    ∷ (201, passes (said is_malformed) (numbered_line lines number))
+    ∷ (202, passes (said is_out_of_range) (numbered_line lines number))
+    ∷ (203, passes (said is_unnamed) (numbered_line lines number))
+    ∷ (301, passes (said has_equal_points) (numbered_line lines number))
+    ∷ (302, passes (said is_straight_triangle) (numbered_line lines number))
+    ∷ (303, passes (said is_bent_quad) (numbered_line lines number))
+    ∷ (304, passes (said is_uneven_quad) (numbered_line lines number))
+    ∷ (305, passes (said is_singular_reference) (numbered_line lines number))
     ∷ (306, is_repeated lines number)
-    ∷ (307, passes (λ line. has_more_fields (length (fields line)) (line_of line)) (line_at lines number))
-    ∷ (308, passes (said is_edge_off_24) (line_at lines number))
-    ∷ (309, passes (said is_face_in_24) (line_at lines number))
+    ∷ (307, passes (λ line. has_more_fields (length (fields line)) (line_of line)) (numbered_line lines number))
+    ∷ (308, passes (said is_edge_off_24) (numbered_line lines number))
+    ∷ (309, passes (said is_face_in_24) (numbered_line lines number))
     ∷ []
 
 -- the finding, if the rule holds

@@ -8,7 +8,7 @@ use Rattle.ld_names.specs.declared.name.NameError.{NameError}
 use Rattle.ld_line.specs.Field.{after_fields, fields}
 use Rattle.ld_line.specs.declared.line.Line.{Line}
 use Rattle.ld_line.specs.Part.{header_of}
-use Rattle.ld_check.specs.Text.{line_at, passes, said}
+use Rattle.ld_check.specs.Text.{numbered_line, passes, said}
 
 -- `0` and a description
 abbrev pub is_description : List (List ℕ) → Bool
@@ -47,7 +47,7 @@ is_part_type line = unwrap_or (header_of line) false
 
 -- the line at its place in the header does not have its layout
 abbrev pub lacks : ℕ → (List ℕ → Bool) → List (List ℕ) → ℕ → Bool
-lacks place layout lines number = number == place && not (passes layout (line_at lines number))
+lacks place layout lines number = number == place && not (passes layout (numbered_line lines number))
 
 abbrev pub lacks_description : List (List ℕ) → ℕ → Bool
 lacks_description lines number = lacks 1 (λ line. is_description (fields line)) lines number
@@ -57,7 +57,7 @@ lacks_name lines number = lacks 2 (λ line. is_some (stated_name line)) lines nu
 
 -- a name is stated, and it is not that of the file
 abbrev pub is_misnamed : FileId → List (List ℕ) → ℕ → Bool
-is_misnamed file lines number = number == 2 && passes (λ line. names_another file.name (stated_name line)) (line_at lines number)
+is_misnamed file lines number = number == 2 && passes (λ line. names_another file.name (stated_name line)) (numbered_line lines number)
 
 abbrev pub lacks_author : List (List ℕ) → ℕ → Bool
 lacks_author lines number = lacks 3 (λ line. has_value (codes "Author:") (fields line)) lines number

@@ -11,7 +11,7 @@ use Rattle.ld_line.specs.declared.line.Kind.TheVariants.{Line2, Tri, Quad, Opt}
 use Rattle.ld_line.specs.declared.line.Line.{Line}
 use Rattle.ld_line.specs.declared.line.Line.TheVariants.{Draw, Malformed, OutOfRange, Ref}
 use Rattle.ld_check.specs.Geometry.{same_point}
-use Rattle.ld_check.specs.Text.{line_at, lines_before, passes}
+use Rattle.ld_check.specs.Text.{numbered_line, lines_before, passes}
 
 abbrev pub is_malformed : Line → Bool
 is_malformed Malformed = true
@@ -63,4 +63,4 @@ draws_same line other = false
 
 -- a line draws what an earlier one draws
 abbrev pub is_repeated : List (List ℕ) → ℕ → Bool
-is_repeated lines number = passes (λ line. list_any (λ earlier. draws_same (line_of line) (line_of earlier)) (lines_before lines number)) (line_at lines number)
+is_repeated lines number = passes (λ line. list_any (λ earlier. draws_same (line_of line) (line_of earlier)) (lines_before lines number)) (numbered_line lines number)

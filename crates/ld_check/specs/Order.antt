@@ -6,7 +6,7 @@ use Rattle.ld_line.specs.Field.{fields}
 use Rattle.ld_line.specs.Reading.{line_of}
 use Rattle.ld_line.specs.declared.line.Line.{Line}
 use Rattle.ld_line.specs.declared.line.Line.TheVariants.{Bfc, Draw, Ref}
-use Rattle.ld_check.specs.Text.{line_at, lines_before, passes, said}
+use Rattle.ld_check.specs.Text.{numbered_line, lines_before, passes, said}
 
 -- a line that refers or draws
 abbrev pub is_body : Line → Bool
@@ -21,7 +21,7 @@ is_statement line = false
 
 -- the first line that refers or draws
 abbrev pub begins_body : List (List ℕ) → ℕ → Bool
-begins_body lines number = passes (said is_body) (line_at lines number) && not (list_any (said is_body) (lines_before lines number))
+begins_body lines number = passes (said is_body) (numbered_line lines number) && not (list_any (said is_body) (lines_before lines number))
 
 -- the body begins without a statement of back face culling before it
 abbrev pub lacks_statement : List (List ℕ) → ℕ → Bool
@@ -45,4 +45,4 @@ is_below rank earlier = false
 -- a line after the first five and before the body, which belongs before an earlier such line
 abbrev pub is_out_of_order : List (List ℕ) → ℕ → Bool
 is_out_of_order lines number =
-    nat_lt 5 number && not (list_any (said is_body) (take number lines)) && passes (λ line. list_any (λ earlier. is_below (rank_of line) (rank_of earlier)) (drop 5 (lines_before lines number))) (line_at lines number)
+    nat_lt 5 number && not (list_any (said is_body) (take number lines)) && passes (λ line. list_any (λ earlier. is_below (rank_of line) (rank_of earlier)) (drop 5 (lines_before lines number))) (numbered_line lines number)

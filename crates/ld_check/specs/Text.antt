@@ -4,8 +4,8 @@ use Rattle.ld_line.specs.Reading.{line_of}
 use Rattle.ld_line.specs.declared.line.Line.{Line}
 
 -- a line; none where the text is shorter
-abbrev pub line_at : List (List ℕ) → ℕ → Option (List ℕ)
-line_at lines number = slice_get lines (number - 1)
+abbrev pub numbered_line : List (List ℕ) → ℕ → Option (List ℕ)
+numbered_line lines number = slice_get lines (number - 1)
 
 abbrev pub lines_before : List (List ℕ) → ℕ → List (List ℕ)
 lines_before lines number = take (number - 1) lines

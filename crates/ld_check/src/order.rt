@@ -4,7 +4,7 @@ ghost use Rattle.std.specs.Option.{option_map};
 ghost use Rattle.std.specs.Ordering.{nat_cmp};
 ghost use Rattle.ld_line.specs.Field.{fields};
 ghost use Rattle.ld_line.specs.Reading.{line_of};
-ghost use Rattle.ld_check.specs.Inside.Ranking.{IsHigher, place_of, rank_place};
+ghost use Rattle.ld_check.specs.Inside.Ranking.{IsHigher, place_of_rank, rank_place};
 ghost use Rattle.ld_check.specs.Order.{is_below, is_body, is_statement, rank_of, rank_of_fields, rank_of_word};
 ghost use Rattle.ld_check.specs.declared.order.Rank.{Rank as SpecRank};
 
@@ -41,7 +41,7 @@ pub(crate) fn is_statement(line: &Line) -> bool
 // The rank of a line of these bytes.
 pub(crate) fn rank_of(bytes: &[u8], line: &Line) -> Option<Rank>
     requires { line.now ≡ line_of bytes.now }
-    ensures { place_of result ≡ rank_of bytes.now }
+    ensures { place_of_rank result ≡ rank_of bytes.now }
 {
     if is_statement(line) {
         return Some(Rank::Bfc);
@@ -50,7 +50,7 @@ pub(crate) fn rank_of(bytes: &[u8], line: &Line) -> Option<Rank>
 }
 
 fn rank_by_fields(bytes: &[u8]) -> Option<Rank>
-    ensures { place_of result ≡ rank_of_fields (fields bytes.now) }
+    ensures { place_of_rank result ≡ rank_of_fields (fields bytes.now) }
 {
     let (kind, rest) = split_field(bytes)?;
     let (word, _) = split_field(rest)?;
@@ -62,7 +62,7 @@ fn rank_by_fields(bytes: &[u8]) -> Option<Rank>
 }
 
 fn rank_by_word(word: &[u8]) -> Option<Rank>
-    ensures { place_of result ≡ rank_of_word word.now }
+    ensures { place_of_rank result ≡ rank_of_word word.now }
 {
     if word == b"!HELP".as_slice() {
         Some(Rank::Help)
@@ -80,7 +80,7 @@ fn rank_by_word(word: &[u8]) -> Option<Rank>
 }
 
 pub(crate) fn is_below(rank: Option<Rank>, earlier: Option<Rank>) -> bool
-    ensures { result ≡ is_below (place_of rank) (place_of earlier) }
+    ensures { result ≡ is_below (place_of_rank rank) (place_of_rank earlier) }
 {
     rank_law();
     match (rank, earlier) {

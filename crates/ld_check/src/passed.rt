@@ -2,7 +2,7 @@
 ghost use Rattle.std.specs.Prelude.{◌≡◌, ◌&&◌, ◌||◌, [], nat_lt, not};
 ghost use Rattle.ld_line.specs.Reading.{line_of};
 ghost use Rattle.ld_check.specs.Inside.Passing.{IsPassed, header_rank};
-ghost use Rattle.ld_check.specs.Inside.Ranking.{IsHigher, place_of};
+ghost use Rattle.ld_check.specs.Inside.Ranking.{IsHigher, place_of_rank};
 ghost use Rattle.ld_check.specs.Order.{is_body, is_statement};
 
 use crate::drawing::Drawings;
@@ -41,7 +41,7 @@ impl Passed {
     // The rank of the line, if it stands after the first five and before the body.
     pub(crate) fn rank(&self, number: u32, bytes: &[u8], line: &Line) -> Option<Rank>
         requires { line.now ≡ line_of bytes.now }
-        ensures { place_of result ≡ header_rank number self.now bytes.now line.now }
+        ensures { place_of_rank result ≡ header_rank number self.now bytes.now line.now }
     {
         if self.in_header(number, line) {
             rank_of(bytes, line)

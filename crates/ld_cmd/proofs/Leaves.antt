@@ -9,7 +9,7 @@ use Rattle.ld_cmd.specs.declared.status.Status.{Status}
 use Rattle.ld_cmd.specs.declared.status.Status.TheVariants.{Done, Faulted, Usage, Input, ReadFault, WriteFault, Memory, Limit}
 use Rattle.ld_cmd.specs.Ending.{EndsAs, Interruption, IsStoppedPut, Reading, Writing, Room, StandsInFront, Takes, TakesAfter, TakesAll, interruption_of}
 use Rattle.ld_cmd.specs.Leaving.{Leaves, TakesFewer, TakesUpTo}
-use Rattle.ld_cmd.specs.Playing.{Setting, Step, Reply, Ends, followed, played, step_of}
+use Rattle.ld_cmd.specs.Playing.{Setting, Replied, Reply, Ends, followed, played, replied_to}
 use Rattle.ld_cmd.specs.Written.{Output, one_piece, onto}
 
 -- the part of the pieces that stands behind a whole first one
@@ -108,7 +108,7 @@ line-leaves line status None after ends takes = (ends, tt)
 line-leaves line status (Some before) after ends takes = (ends, last-taken (interruption_of status) line before after takes)
 
 -- a step is not answered
-followed-some : (step : Step) (further : Known → Output) → 0 < length (followed step further).pieces
+followed-some : (step : Replied) (further : Known → Output) → 0 < length (followed step further).pieces
 followed-some (Reply piece known) further = omega arith
 followed-some (Ends line) further = omega arith
 
@@ -127,38 +127,38 @@ none-leaves wanted Limit before some stops = absurd stops
 -- ---- by the first of the commands
 
 module _ (setting : Setting) (files : Files) (known : Known) (command : Command) (commands : List Command) where
-  played-reply : (piece : List ℕ) (after : Known) → step_of setting files known command ≡ Reply piece after → played setting files known (command ∷ commands) ≡ onto piece (played setting files after commands)
+  played-reply : (piece : List ℕ) (after : Known) → replied_to setting files known command ≡ Reply piece after → played setting files known (command ∷ commands) ≡ onto piece (played setting files after commands)
   unfolding played
   played-reply piece after is = ap (λ step. followed step (λ more. played setting files more commands)) is
 
-  played-ends : (line : List ℕ) → step_of setting files known command ≡ Ends line → played setting files known (command ∷ commands) ≡ one_piece line Limit
+  played-ends : (line : List ℕ) → replied_to setting files known command ≡ Ends line → played setting files known (command ∷ commands) ≡ one_piece line Limit
   unfolding played
   played-ends line is = ap (λ step. followed step (λ more. played setting files more commands)) is
 
   played-some : 0 < length (played setting files known (command ∷ commands)).pieces
   unfolding played
-  played-some = followed-some (step_of setting files known command) (λ more. played setting files more commands)
+  played-some = followed-some (replied_to setting files known command) (λ more. played setting files more commands)
 
 -- what the commands leave
 abbrev LeavesPlayed : Setting → Option Files → Known → List Command → Status → Option (List ℕ) → Option (List ℕ) → Type 0
 LeavesPlayed setting files known commands status before after = Leaves files (λ all. played setting all known commands) status before after
 
-reply-goes_on : (setting : Setting) (files : Option Files) (old new : Known) (command : Command) (reply : List ℕ) (before between : Option (List ℕ)) → IfSome files (λ all. step_of setting all old command ≡ Reply reply new) → is_some between ≡ is_some before → IfSome before (λ taken. TakesAll (reply ∷ []) taken between) → (commands : List Command) (status : Status) (after : Option (List ℕ)) → LeavesPlayed setting files new commands status between after → LeavesPlayed setting files old (command ∷ commands) status before after
+reply-goes_on : (setting : Setting) (files : Option Files) (old new : Known) (command : Command) (reply : List ℕ) (before between : Option (List ℕ)) → IfSome files (λ all. replied_to setting all old command ≡ Reply reply new) → is_some between ≡ is_some before → IfSome before (λ taken. TakesAll (reply ∷ []) taken between) → (commands : List Command) (status : Status) (after : Option (List ℕ)) → LeavesPlayed setting files new commands status between after → LeavesPlayed setting files old (command ∷ commands) status before after
 reply-goes_on setting None old new command reply before between steps told puts commands status after left = tt
 reply-goes_on setting (Some files) old new command reply before between steps told puts commands status after left =
     subst (λ wanted. LeavesOf wanted status before after) (sym (played-reply setting files old command commands reply new steps)) (onto-goes_on reply (played setting files new commands) status before between after told puts left)
 
-reply-stops : (setting : Setting) (files : Option Files) (old new : Known) (command : Command) (reply : List ℕ) (status : Status) (before after : Option (List ℕ)) → IfSome files (λ all. step_of setting all old command ≡ Reply reply new) → IsStoppedPut status → IfSome before (λ taken. Takes status (reply ∷ []) taken after) → (commands : List Command) → LeavesPlayed setting files old (command ∷ commands) status before after
+reply-stops : (setting : Setting) (files : Option Files) (old new : Known) (command : Command) (reply : List ℕ) (status : Status) (before after : Option (List ℕ)) → IfSome files (λ all. replied_to setting all old command ≡ Reply reply new) → IsStoppedPut status → IfSome before (λ taken. Takes status (reply ∷ []) taken after) → (commands : List Command) → LeavesPlayed setting files old (command ∷ commands) status before after
 reply-stops setting None old new command reply status before after steps stops takes commands = tt
 reply-stops setting (Some files) old new command reply status before after steps stops takes commands =
     subst (λ wanted. LeavesOf wanted status before after) (sym (played-reply setting files old command commands reply new steps)) (onto-stops reply (played setting files new commands) status before after stops takes)
 
 -- a reply is put, and then what follows
-pub reply-answers : {A : Type 0} (setting : Setting) (files : Option Files) (old new : Known) (command : Command) (reply : List ℕ) (before between : Option (List ℕ)) (result : Result A Status) → IfSome files (λ all. step_of setting all old command ≡ Reply reply new) → is_some between ≡ is_some before → OnOk result (IfSome before (λ taken. TakesAll (reply ∷ []) taken between)) → IfErr result (λ status. IsStoppedPut status × IfSome before (λ taken. Takes status (reply ∷ []) taken between)) → OnOk result ((commands : List Command) (status : Status) (after : Option (List ℕ)) → LeavesPlayed setting files new commands status between after → LeavesPlayed setting files old (command ∷ commands) status before after) × IfErr result (λ status. (commands : List Command) → LeavesPlayed setting files old (command ∷ commands) status before between)
+pub reply-answers : {A : Type 0} (setting : Setting) (files : Option Files) (old new : Known) (command : Command) (reply : List ℕ) (before between : Option (List ℕ)) (result : Result A Status) → IfSome files (λ all. replied_to setting all old command ≡ Reply reply new) → is_some between ≡ is_some before → OnOk result (IfSome before (λ taken. TakesAll (reply ∷ []) taken between)) → IfErr result (λ status. IsStoppedPut status × IfSome before (λ taken. Takes status (reply ∷ []) taken between)) → OnOk result ((commands : List Command) (status : Status) (after : Option (List ℕ)) → LeavesPlayed setting files new commands status between after → LeavesPlayed setting files old (command ∷ commands) status before after) × IfErr result (λ status. (commands : List Command) → LeavesPlayed setting files old (command ∷ commands) status before between)
 reply-answers setting files old new command reply before between (Ok done) steps told whole part = (reply-goes_on setting files old new command reply before between steps told whole, tt)
 reply-answers setting files old new command reply before between (Err status) steps told whole part = (tt, reply-stops setting files old new command reply status before between steps part.0 part.1)
 
-pub line-ends : (setting : Setting) (files : Option Files) (old : Known) (command : Command) (line : List ℕ) (ends status : Status) (before after : Option (List ℕ)) → IfSome files (λ all. (step_of setting all old command ≡ Ends line) × (ends ≡ Limit)) → EndsAs status ends → IfSome before (λ taken. Takes status (line ∷ []) taken after) → (commands : List Command) → LeavesPlayed setting files old (command ∷ commands) status before after
+pub line-ends : (setting : Setting) (files : Option Files) (old : Known) (command : Command) (line : List ℕ) (ends status : Status) (before after : Option (List ℕ)) → IfSome files (λ all. (replied_to setting all old command ≡ Ends line) × (ends ≡ Limit)) → EndsAs status ends → IfSome before (λ taken. Takes status (line ∷ []) taken after) → (commands : List Command) → LeavesPlayed setting files old (command ∷ commands) status before after
 line-ends setting None old command line ends status before after steps ended takes commands = tt
 line-ends setting (Some files) old command line ends status before after steps ended takes commands =
     subst (λ wanted. LeavesOf wanted status before after) (sym (played-ends setting files old command commands line steps.0)) (line-leaves line status before after (subst (λ limit. EndsAs status limit) steps.1 ended) takes)

@@ -6,7 +6,7 @@ use Rattle.ld_colour.specs.Table.{Counting}
 use Rattle.ld_script.specs.Script.{commands_of}
 use Rattle.ld_words.specs.Words.{Options}
 use Rattle.ld_cmd.specs.Output.{input, limits_of, loaded_by, main_file, main_output, model_output, own_name, replay_output, replayed, table_of}
-use Rattle.ld_cmd.specs.Replying.{Opens}
+use Rattle.ld_cmd.specs.Replying.{OpensSession}
 use Rattle.ld_mpd.specs.Blocks.{text_blocks}
 use Rattle.ld_names.specs.Standing.{Known}
 use Rattle.ld_names.specs.declared.file.FileId.{FileId}
@@ -16,7 +16,7 @@ use Rattle.ld_cmd.specs.Written.{Output}
 use Rattle.ld_cmd.specs.declared.made.Stop.{Stop}
 use Rattle.ld_cmd.specs.declared.session.Session.{Session}
 
-pub replay-told : (files : Option Files) (file script own bytes lines : List ℕ) (options : Options) (table : Counting) (result : Result Session Stop) → IfSome files (λ all. input file (all Work file) ≡ Ok bytes) → IfSome files (λ all. input script (all Work script) ≡ Ok lines) → IfSome files (λ all. table_of options.colours all ≡ Ok table) → own ≡ own_name file → ((all : Files) → Opens (replayed options table (commands_of lines) all own bytes) all result) → IfSome files (λ all. Opens (replay_output file script options all) all result)
+pub replay-told : (files : Option Files) (file script own bytes lines : List ℕ) (options : Options) (table : Counting) (result : Result Session Stop) → IfSome files (λ all. input file (all Work file) ≡ Ok bytes) → IfSome files (λ all. input script (all Work script) ≡ Ok lines) → IfSome files (λ all. table_of options.colours all ≡ Ok table) → own ≡ own_name file → ((all : Files) → OpensSession (replayed options table (commands_of lines) all own bytes) all result) → IfSome files (λ all. OpensSession (replay_output file script options all) all result)
 replay-told None file script own bytes lines options table result read script_read coloured named opens = tt
 replay-told (Some files) file script own bytes lines options table result read script_read coloured named opens =
     rw read (rw script_read (rw coloured (rw (sym named) (opens files))))

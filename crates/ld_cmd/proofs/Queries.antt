@@ -20,17 +20,17 @@ use Rattle.ld_cmd.specs.Written.{Output}
 use Rattle.ld_cmd.specs.Made.{queried_output}
 use Rattle.ld_cmd.specs.Output.{learnt_output, limits_of, main_output, shown_or_fault}
 use Rattle.ld_cmd.proofs.First.{first-numbered, first-there}
-use Rattle.ld_cmd.specs.Querying.{IsFirst, Queried, Queries, answer_at, answer_queried, answered_as, queried, queried_on, where_there}
+use Rattle.ld_cmd.specs.Querying.{IsFirst, Queried, Queries, answer_at, answer_queried, queried_as, queried, queried_on, where_there}
 
 module _ (limits : Limits) (files : Files) (root : FileId) (colour : Colour) (old new : Known) (stands : StandsForRoots) (distinct : AreDistinct new) where
-  answered : (given : Result Answer LineFault) → learning limits files root old ≡ learnt new → IsAnswered limits root colour new given → Queries limits files root colour old new (answered_as given)
+  answered : (given : Result Answer LineFault) → learning limits files root old ≡ learnt new → IsAnswered limits root colour new given → Queries limits files root colour old new (queried_as given)
   answered given told is =
       let texts = stands new (text_on files) distinct root is.id is.number is.nothing_wanted limits.depth limits.entries colour in
-      let there = ap (λ text. where_there (λ id. answered_as (answer_at limits files colour new id)) text (id_of new root)) is.there.1 in
-      let number = ap (λ id. where_there (λ id. answered_as (answer_at limits files colour new id)) (Some (Some is.there.0)) id) is.number in
+      let there = ap (λ text. where_there (λ id. queried_as (answer_at limits files colour new id)) text (id_of new root)) is.there.1 in
+      let number = ap (λ id. where_there (λ id. queried_as (answer_at limits files colour new id)) (Some (Some is.there.0)) id) is.number in
       record {
         known = ap (λ all. all.known) told;
-        is = ap (λ all. queried limits files root colour all) told ∙ there ∙ number ∙ ap answered_as (texts ∙ is.answer);
+        is = ap (λ all. queried limits files root colour all) told ∙ there ∙ number ∙ ap queried_as (texts ∙ is.answer);
       }
 
   pub query-told : (result : Result Answer AnswerError) → Answers limits root colour new result → AnswersTold limits files root old new result → IfSome (answer_queried result) (λ given. Queries limits files root colour old new given)
@@ -41,14 +41,14 @@ module _ (limits : Limits) (files : Files) (root : FileId) (colour : Colour) (ol
   query-told (Err NoRoot) is told =
       record {
         known = ap (λ all. all.known) told;
-        is = ap (λ all. queried limits files root colour all) told ∙ ap (λ text. where_there (λ id. answered_as (answer_at limits files colour new id)) text (id_of new root)) is.1;
+        is = ap (λ all. queried limits files root colour all) told ∙ ap (λ text. where_there (λ id. queried_as (answer_at limits files colour new id)) text (id_of new root)) is.1;
       }
   query-told (Err ReadFault) is told = tt
   query-told (Err Memory) is told = tt
 
 -- the output of a query of the main model is that of what it comes to
 module _ (show : Known → Answer → Output) (options : Options) (files : Files) (main : FileId) where
-  given-output : (known : Known) (given : Result Answer LineFault) → queried_output show known (answered_as given) ≡ Some (shown_or_fault show known given)
+  given-output : (known : Known) (given : Result Answer LineFault) → queried_output show known (queried_as given) ≡ Some (shown_or_fault show known given)
   given-output known (Ok answer) = refl
   given-output known (Err fault) = refl
 

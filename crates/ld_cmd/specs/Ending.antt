@@ -98,12 +98,12 @@ UsageIsExact None status = EndsAs status Usage × (status ≢ ReadFault)
 UsageIsExact (Some intent) status = status ≢ Usage
 
 -- the exit status of the program
-abbrev pub number_of : Status → ℕ
-number_of Done = 0
-number_of Faulted = 1
-number_of Usage = 2
-number_of Input = 3
-number_of ReadFault = 4
-number_of WriteFault = 5
-number_of Memory = 6
-number_of Limit = 7
+abbrev pub exit_code : Status → ℕ
+exit_code Done = 0
+exit_code Faulted = 1
+exit_code Usage = 2
+exit_code Input = 3
+exit_code ReadFault = 4
+exit_code WriteFault = 5
+exit_code Memory = 6
+exit_code Limit = 7

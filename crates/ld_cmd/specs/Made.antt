@@ -1,7 +1,7 @@
 -- What the code's values say.
 use Rattle.std.specs.Prelude.{◌≡◌, Option, Some, None, Result, Ok, Err}
 use Rattle.ld_cmd.specs.Written.{Output, one_piece, stop_text}
-use Rattle.ld_cmd.specs.Querying.{Queried, Stops as Stopped, NoRoot, Faulted, Answered}
+use Rattle.ld_cmd.specs.Querying.{Queried, Stopped, NoRoot, FirstFault, Answered}
 use Rattle.ld_engine.specs.declared.asking.Answer.{Answer}
 use Rattle.ld_names.specs.Standing.{Known}
 use Rattle.ld_report.specs.Entries.{fault_text}
@@ -27,7 +27,7 @@ Makes wanted (Err stop) = Stops wanted stop
 abbrev pub queried_output : (Known → Answer → Output) → Known → Queried → Option Output
 queried_output show known (Stopped stop) = Some (one_piece (stop_text stop) status.Limit)
 queried_output show known NoRoot = None
-queried_output show known (Faulted fault) = Some (one_piece (fault_text known fault) status.Faulted)
+queried_output show known (FirstFault fault) = Some (one_piece (fault_text known fault) status.Faulted)
 queried_output show known (Answered answer) = Some (show known answer)
 
 -- a value as it is wanted, or the output that is decided without it

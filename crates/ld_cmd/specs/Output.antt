@@ -154,14 +154,14 @@ abbrev pub found_output : List Finding → Output
 found_output findings = one_piece (findings_text findings) (if length findings == 0 then status.Done else status.Faulted)
 
 -- what is found in the main model's text, by the model's name and its bytes
-unfoldable pub checked : Options → List ℕ → List ℕ → Output
-checked options own bytes =
+unfoldable pub checked_output : Options → List ℕ → List ℕ → Output
+checked_output options own bytes =
     and_then (loaded_by (load (limits_of options) [] (text_blocks own bytes))) (λ known. found_output (findings_of (main_file own (text_blocks own bytes)) (text_of own bytes)))
 
 -- the output of the command that checks a file
 abbrev pub check_output : List ℕ → Options → Files → Output
 check_output file options files =
-    and_then (input file (files Work file)) (λ bytes. and_then (table_of options.colours files) (λ table. checked options (own_name file) bytes))
+    and_then (input file (files Work file)) (λ bytes. and_then (table_of options.colours files) (λ table. checked_output options (own_name file) bytes))
 
 -- ---- 7. Scripts.
 

@@ -18,14 +18,14 @@ use Rattle.ld_engine.specs.declared.limits.Limits.{Limits}
 -- what a query comes to: what stops the learning, a root that is absent, the first fault, or all entries with
 -- their steps
 pub data Queried : Type 0 where
-  Stops : Stop → Queried
+  Stopped : Stop → Queried
   NoRoot : Queried
-  Faulted : Fault → Queried
+  FirstFault : Fault → Queried
   Answered : Answer → Queried
 
-abbrev pub answered_as : Result Answer Fault → Queried
-answered_as (Ok answer) = Answered answer
-answered_as (Err fault) = Faulted fault
+abbrev pub queried_as : Result Answer Fault → Queried
+queried_as (Ok answer) = Answered answer
+queried_as (Err fault) = FirstFault fault
 
 -- the answer of the texts as they stand to a root by its number
 abbrev pub answer_at : Limits → Files → Colour → Known → ℕ → Result Answer Fault
@@ -39,9 +39,9 @@ where_there queried text id = NoRoot
 
 -- once learning has ended
 abbrev pub queried_on : Limits → Files → FileId → Colour → Known → Option Stop → Queried
-queried_on limits files root colour known (Some stop) = Stops stop
+queried_on limits files root colour known (Some stop) = Stopped stop
 queried_on limits files root colour known None =
-    where_there (λ id. answered_as (answer_at limits files colour known id)) (known_map known root) (id_of known root)
+    where_there (λ id. queried_as (answer_at limits files colour known id)) (known_map known root) (id_of known root)
 
 abbrev pub queried : Limits → Files → FileId → Colour → Learnt → Queried
 queried limits files root colour learnt = queried_on limits files root colour learnt.known learnt.stop
@@ -49,9 +49,9 @@ queried limits files root colour learnt = queried_on limits files root colour le
 -- what a workspace's answer comes to; nothing where reading or memory stopped it
 abbrev pub answer_queried : Result Answer AnswerError → Option Queried
 answer_queried (Ok answer) = Some (Answered answer)
-answer_queried (Err (refused.Fault fault)) = Some (Faulted fault)
-answer_queried (Err (refused.TooBig file)) = Some (Stops (TooBig file))
-answer_queried (Err (refused.Full over)) = Some (Stops (Full over))
+answer_queried (Err (refused.Fault fault)) = Some (FirstFault fault)
+answer_queried (Err (refused.TooBig file)) = Some (Stopped (TooBig file))
+answer_queried (Err (refused.Full over)) = Some (Stopped (Full over))
 answer_queried (Err refused.NoRoot) = Some NoRoot
 answer_queried (Err refused.ReadFault) = None
 answer_queried (Err refused.Memory) = None

@@ -6,7 +6,7 @@ ghost use Rattle.ld_engine.specs.Limits.{bad_limit};
 ghost use Rattle.ld_words.specs.Shown.{options_shown};
 ghost use Rattle.ld_cmd.specs.Ending.{IsWhole};
 ghost use Rattle.ld_cmd.specs.Made.{Makes, output_of};
-ghost use Rattle.ld_cmd.specs.Output.{check_output, checked, file_bytes, found_output, limits_of};
+ghost use Rattle.ld_cmd.specs.Output.{check_output, checked_output, file_bytes, found_output, limits_of};
 
 use crate::inputs::{read_input, read_table};
 use crate::made::{Made, Stop};
@@ -46,11 +46,11 @@ pub(crate) fn check_file<S: Shelf>(
     check_model(alloc, options, &own, bytes.as_slice())
 }
 
-#[tactic(auto, unfolding(crate::specs::Output::checked))]
+#[tactic(auto, unfolding(crate::specs::Output::checked_output))]
 fn check_model(alloc: Global, options: &Options, own: &Name, bytes: &[u8]) -> Result<Made, Stop>
     requires bounds { bad_limit (limits_of (options_shown options.now)) ≡ None }
     requires size { length bytes.now ≤ file_bytes }
-    ensures told { Makes (checked (options_shown options.now) own.now bytes.now) result }
+    ensures told { Makes (checked_output (options_shown options.now) own.now bytes.now) result }
     ensures no_fault { result ≢ Err Stop.ReadFault }
 {
     let mut workspace = open_workspace(alloc, options)?;

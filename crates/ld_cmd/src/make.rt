@@ -9,7 +9,7 @@ ghost use Rattle.ld_words.specs.Words.{IsBounded, intent_of};
 ghost use Rattle.ld_io.specs.Shelf.{Files};
 ghost use Rattle.ld_cmd.specs.Ending.{PutsOnce, PutsOnceFor};
 ghost use Rattle.ld_cmd.specs.Made.{Makes};
-ghost use Rattle.ld_cmd.specs.Replying.{IsNoScript, Opens, Works};
+ghost use Rattle.ld_cmd.specs.Replying.{IsNoScript, OpensSession, Works};
 ghost use Rattle.ld_cmd.specs.Written.{Output};
 ghost use Rattle.ld_cmd.specs.declared.made.Stop.{Stop};
 ghost use Rattle.ld_cmd.specs.Output.{after_slash, generated_output, limits_of, listing_output, name_or_default, output, own_name, shown_output, task_output};
@@ -78,7 +78,7 @@ fn written(made: Result<Made, Stop>) -> Result<Work, Stop>
 
 fn played(session: Result<Session, Stop>) -> Result<Work, Stop>
     ensures told { (files : Option Files) (wanted : Files → Output)
-        → IfSome files (λ all. Opens (wanted all) all session) → IfSome files (λ all. Works (wanted all) all result) }
+        → IfSome files (λ all. OpensSession (wanted all) all session) → IfSome files (λ all. Works (wanted all) all result) }
     ensures stopped { (stop : Stop) → result ≡ Err stop → session ≡ Err stop }
 {
     match session {

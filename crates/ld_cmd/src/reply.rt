@@ -2,7 +2,7 @@
 ghost use Rattle.std.specs.Prelude.{◌≡◌, ◌≢◌, ◌≤◌, ◌++◌, ◌<◌, ◌^◌, Err, IfOk, IfSome, codes, decimal, length};
 ghost use Rattle.ld_io.specs.Faults.{HasRisen};
 ghost use Rattle.ld_colour.specs.Table.{counting};
-ghost use Rattle.ld_cmd.specs.Playing.{Step, colour_number, edit_step, query_reply, query_step, refusal_text, root_of, shown_by, step_of};
+ghost use Rattle.ld_cmd.specs.Playing.{Replied, colour_number, edit_step, query_reply, query_step, refusal_text, root_of, shown_by, replied_to};
 ghost use Rattle.ld_cmd.specs.Querying.{answer_queried};
 ghost use Rattle.ld_cmd.specs.Replying.{Replies, edit_given, setting_shown};
 ghost use Rattle.ld_cmd.specs.Written.{shown_text};
@@ -33,7 +33,7 @@ pub(crate) fn reply<S: Shelf>(
     requires limits { workspace.old.limits ≡ setting.now.limits }
     ensures limits { workspace.new.limits ≡ workspace.old.limits }
     ensures told { IfSome (S.files shelf.old)
-        (λ files. Replies (step_of (setting_shown setting.now) files workspace.old.texts.known command.now) workspace.new.texts.known result) }
+        (λ files. Replies (replied_to (setting_shown setting.now) files workspace.old.texts.known command.now) workspace.new.texts.known result) }
     ensures cause { result ≡ Err Stop.ReadFault → HasRisen (S.faults shelf.old) (S.faults shelf.new) }
     ensures same { S.files shelf.new ≡ S.files shelf.old }
     ensures never_falls { S.faults shelf.old ≤ S.faults shelf.new }
@@ -76,7 +76,7 @@ fn answer_edit<S: Shelf>(
 }
 
 fn edit_reply(alloc: Global, edited: Result<(), EditError>) -> Result<Bytes, Stop>
-    ensures reply { (wanted : Step) (known : Known) → IfSome (edit_given known edited) (λ given. given ≡ wanted) → Replies wanted known result }
+    ensures reply { (wanted : Replied) (known : Known) → IfSome (edit_given known edited) (λ given. given ≡ wanted) → Replies wanted known result }
     ensures fault { result ≡ Err Stop.ReadFault → edited ≡ Err EditError.ReadFault }
 {
     match edited {
@@ -139,7 +139,7 @@ fn answer_reply(
     answer: Result<Answer, AnswerError>,
 ) -> Result<Bytes, Stop>
     requires { IfOk answer (λ answer. length answer.entries < 2 ^ 32) }
-    ensures reply { (wanted : Step) → IfSome (answer_queried answer) (λ given. query_reply what (counting table.now) texts.now.known given ≡ wanted) → Replies wanted texts.now.known result }
+    ensures reply { (wanted : Replied) → IfSome (answer_queried answer) (λ given. query_reply what (counting table.now) texts.now.known given ≡ wanted) → Replies wanted texts.now.known result }
     ensures fault { result ≡ Err Stop.ReadFault → answer ≡ Err AnswerError.ReadFault }
 {
     match answer {

@@ -7,7 +7,7 @@ ghost use Rattle.ld_engine.specs.Limits.{bad_limit};
 ghost use Rattle.ld_script.specs.Script.{commands_of};
 ghost use Rattle.ld_words.specs.Shown.{options_shown};
 ghost use Rattle.ld_cmd.specs.Output.{file_bytes, limits_of, replay_output, replayed};
-ghost use Rattle.ld_cmd.specs.Replying.{Opens};
+ghost use Rattle.ld_cmd.specs.Replying.{OpensSession};
 
 use crate::inputs::{read_input, read_table};
 use crate::made::Stop;
@@ -29,7 +29,7 @@ pub(crate) fn open_replay<S: Shelf>(
     shelf: &mut S,
 ) -> Result<Session, Stop>
     requires bounds { bad_limit (limits_of (options_shown options.now)) ≡ None }
-    ensures told { IfSome (S.files shelf.old) (λ files. Opens (replay_output file.now script.now (options_shown options.now) files) files result) }
+    ensures told { IfSome (S.files shelf.old) (λ files. OpensSession (replay_output file.now script.now (options_shown options.now) files) files result) }
     ensures cause { result ≡ Err Stop.ReadFault → HasRisen (S.faults shelf.old) (S.faults shelf.new) }
     ensures same { S.files shelf.new ≡ S.files shelf.old }
     ensures never_falls { S.faults shelf.old ≤ S.faults shelf.new }
@@ -70,7 +70,7 @@ fn open_session(
     requires bounds { bad_limit (limits_of (options_shown options.now)) ≡ None }
     requires size { length bytes.now ≤ file_bytes }
     requires script_size { length lines.now ≤ file_bytes }
-    ensures opens { (files : Files) → Opens (replayed (options_shown options.now) (counting table) (commands_of lines.now) files own.now bytes.now) files result }
+    ensures opens { (files : Files) → OpensSession (replayed (options_shown options.now) (counting table) (commands_of lines.now) files own.now bytes.now) files result }
     ensures no_fault { result ≢ Err Stop.ReadFault }
 {
     let commands = read_script(alloc, lines)?;

@@ -1,5 +1,5 @@
 ghost use Rattle.std.specs.Prelude.{◌≡◌};
-ghost use Rattle.ld_cmd.specs.Ending.{number_of};
+ghost use Rattle.ld_cmd.specs.Ending.{exit_code};
 
 /// How a run ends.
 #[derive(Clone, Copy, Debug, PartialEq, Eq)]
@@ -25,7 +25,7 @@ pub enum Status {
 impl Status {
     /// The exit status of the program: 0 for `Done`, then up to 7 in the order above.
     pub fn number(self) -> u8
-        ensures { result ≡ number_of self }
+        ensures { result ≡ exit_code self }
     {
         self as u8
     }

@@ -19,7 +19,7 @@ use Rattle.ld_colour.specs.declared.definition.DefinedEdge.{DefinedEdge}
 use Rattle.ld_colour.specs.declared.definition.DefinedEdge.TheVariants.{Value, ValueOf}
 use Rattle.ld_colour.specs.declared.definition.Definition.{Definition}
 use Rattle.ld_colour.specs.declared.table.Table.{Table}
-use Rattle.ld_colour.specs.Definition.{are_keywords, colour_line, colour_line_in, defined_by, defining, edge_by, edge_value, is_rest, made, rgb_value, six_digits}
+use Rattle.ld_colour.specs.Definition.{are_keywords, colour_line, colour_line_in, defined_by, defining, edge_by, edge_value, is_rest, made, rgb_value, six_hex_digits}
 use Rattle.ld_colour.specs.Rgb.{HasRgb, IsRgb, IsRgbEdge}
 use Rattle.ld_colour.specs.Table.{FindsRgb, counting, edge_by as table_edge, edge_of, rgb_in, value_by, value_in}
 
@@ -35,7 +35,7 @@ all-digits radix (digit ∷ digits) all =
     let parts = and_parts (is_digit digit radix) (list_all (λ d. is_digit d radix) digits) all in
     (ltb-true (digit_value digit) radix parts.0, all-digits radix digits parts.1)
 
-six_digits-rgb : (digits : List ℕ) → IfSome (six_digits digits) IsRgb
+six_digits-rgb : (digits : List ℕ) → IfSome (six_hex_digits digits) IsRgb
 six_digits-rgb digits =
     cond_both (length digits == 6) (number_of 16 6 digits) None (λ o. IfSome o IsRgb)
     (λ six. cond_both (is_number 16 6 digits) (Some (digits_value 16 digits)) None (λ o. IfSome o IsRgb)
@@ -50,8 +50,8 @@ six_digits-rgb digits =
 
 rgb_value-rgb : (field : List ℕ) → IfSome (rgb_value field) IsRgb
 rgb_value-rgb field =
-    cond_both (bytes_eq (take 1 field) (codes "#")) (six_digits (drop 1 field)) _ (λ o. IfSome o IsRgb) (λ hash. six_digits-rgb (drop 1 field))
-    (λ other. cond_both (bytes_eq (take 2 field) (codes "0x")) (six_digits (drop 2 field)) None (λ o. IfSome o IsRgb) (λ hex. six_digits-rgb (drop 2 field)) (λ none. tt))
+    cond_both (bytes_eq (take 1 field) (codes "#")) (six_hex_digits (drop 1 field)) _ (λ o. IfSome o IsRgb) (λ hash. six_digits-rgb (drop 1 field))
+    (λ other. cond_both (bytes_eq (take 2 field) (codes "0x")) (six_hex_digits (drop 2 field)) None (λ o. IfSome o IsRgb) (λ hex. six_digits-rgb (drop 2 field)) (λ none. tt))
 
 edge_by-rgb : (value code : Option ℕ) → IfSome value IsRgb → IfSome (edge_by value code) IsRgbEdge
 edge_by-rgb (Some value) code rgb = rgb

@@ -9,12 +9,12 @@ use Rattle.ld_colour.specs.declared.definition.DefinedEdge.{DefinedEdge}
 use Rattle.ld_colour.specs.declared.definition.DefinedEdge.TheVariants.{Value, ValueOf}
 use Rattle.ld_colour.specs.declared.definition.Definition.{Definition}
 
-abbrev pub six_digits : List ℕ → Option ℕ
-six_digits digits = if length digits == 6 then number_of 16 6 digits else None
+abbrev pub six_hex_digits : List ℕ → Option ℕ
+six_hex_digits digits = if length digits == 6 then number_of 16 6 digits else None
 
 -- `#` or `0x` and six hexadecimal digits
 abbrev pub rgb_value : List ℕ → Option ℕ
-rgb_value field = if bytes_eq (take 1 field) (codes "#") then six_digits (drop 1 field) else if bytes_eq (take 2 field) (codes "0x") then six_digits (drop 2 field) else None
+rgb_value field = if bytes_eq (take 1 field) (codes "#") then six_hex_digits (drop 1 field) else if bytes_eq (take 2 field) (codes "0x") then six_hex_digits (drop 2 field) else None
 
 abbrev pub edge_by : Option ℕ → Option ℕ → Option DefinedEdge
 edge_by (Some value) code = Some (Value value)

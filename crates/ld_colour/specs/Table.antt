@@ -32,9 +32,9 @@ or_else (Some definition) other = Some definition
 or_else None other = other
 
 -- the last definition of a code among those of a file, in order
-abbrev pub last_of : List (ℕ × Definition) → Counting
-last_of [] code = None
-last_of (defined ∷ more) code = or_else (last_of more code) (if defined.0 == code then Some defined.1 else None)
+abbrev pub last_definition : List (ℕ × Definition) → Counting
+last_definition [] code = None
+last_definition (defined ∷ more) code = or_else (last_definition more code) (if defined.0 == code then Some defined.1 else None)
 
 abbrev pub onto_definitions : ℕ × Definition → Result (List (ℕ × Definition)) ℕ → Result (List (ℕ × Definition)) ℕ
 onto_definitions defined (Ok more) = Ok (defined ∷ more)
@@ -52,7 +52,7 @@ unfoldable pub definitions_of : List ℕ → Result (List (ℕ × Definition)) �
 definitions_of bytes = definitions_from 1 (map colour_line (lines_of bytes))
 
 abbrev pub tabled : Result (List (ℕ × Definition)) ℕ → Result Counting ℕ
-tabled (Ok definitions) = Ok (last_of definitions)
+tabled (Ok definitions) = Ok (last_definition definitions)
 tabled (Err number) = Err number
 
 -- what counts after a colour file, or the number of its first bad line
@@ -96,7 +96,7 @@ FindsRgb table = (colour : Colour) → is_lawful colour ≡ true → IfSome (rgb
 
 -- what counts so far, overruled by further definitions
 abbrev pub overruled : Counting → Result (List (ℕ × Definition)) ℕ → Result Counting ℕ
-overruled so_far (Ok definitions) = Ok (λ code. or_else (last_of definitions code) (so_far code))
+overruled so_far (Ok definitions) = Ok (λ code. or_else (last_definition definitions code) (so_far code))
 overruled so_far (Err number) = Err number
 
 -- the number of the first bad line
@@ -105,6 +105,6 @@ bad_in (Ok definitions) = None
 bad_in (Err number) = Some number
 
 -- a bad line counts before want of memory
-abbrev pub refused_by : Option ℕ → TableError
-refused_by (Some number) = BadColour number
-refused_by None = Memory
+abbrev pub table_error : Option ℕ → TableError
+table_error (Some number) = BadColour number
+table_error None = Memory

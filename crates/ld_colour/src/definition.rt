@@ -1,6 +1,6 @@
 ghost use Rattle.std.specs.Prelude.{◌≡◌};
 ghost use Rattle.ld_line.specs.Field.{fields};
-ghost use Rattle.ld_colour.specs.Definition.{are_keywords, colour_line, defined_by, defining, edge_value, is_optional, is_rest, is_up_to_255, made, rgb_value, six_digits};
+ghost use Rattle.ld_colour.specs.Definition.{are_keywords, colour_line, defined_by, defining, edge_value, is_optional, is_rest, is_up_to_255, made, rgb_value, six_hex_digits};
 
 use ld_line::{read_digits, read_number, split_field};
 
@@ -104,16 +104,16 @@ fn rgb_value(field: &[u8]) -> Option<u32>
     ensures { result ≡ rgb_value field.now }
 {
     match field.strip_prefix(b"#") {
-        Some(digits) => six_digits(digits),
+        Some(digits) => six_hex_digits(digits),
         None => match field.strip_prefix(b"0x") {
-            Some(digits) => six_digits(digits),
+            Some(digits) => six_hex_digits(digits),
             None => None,
         },
     }
 }
 
-fn six_digits(digits: &[u8]) -> Option<u32>
-    ensures { result ≡ six_digits digits.now }
+fn six_hex_digits(digits: &[u8]) -> Option<u32>
+    ensures { result ≡ six_hex_digits digits.now }
 {
     if digits.len() != 6 {
         return None;

@@ -1,7 +1,7 @@
 ghost use Rattle.std.specs.Prelude.{◌≡◌, ◌<◌, ◌+◌, ◌^◌, ◌∷◌, IfErr, IfOk, None, Ok, OnOk, length, map};
 ghost use Rattle.ld_line.specs.Cut.{lines_from};
 ghost use Rattle.ld_colour.specs.Definition.{colour_line};
-ghost use Rattle.ld_colour.specs.Table.{FindsRgb, IsRefused, bad_in, counting, definitions_from, edge_in, overruled, refused_by, rgb_in, table_in, value_in};
+ghost use Rattle.ld_colour.specs.Table.{FindsRgb, IsRefused, bad_in, counting, definitions_from, edge_in, overruled, table_error, rgb_in, table_in, value_in};
 
 use crate::colour::Colour;
 use crate::definition::{ColourLine, DefinedEdge, Definition, colour_line};
@@ -143,7 +143,7 @@ impl Table {
 // The first bad line behind the one with this number, or else want of memory.
 fn refusal(before: u32, behind: &[u8]) -> TableError
     requires { before + length behind.now < 2 ^ 32 }
-    ensures { result ≡ refused_by (bad_in (definitions_from (before + 1) (map colour_line (lines_from behind.now)))) }
+    ensures { result ≡ table_error (bad_in (definitions_from (before + 1) (map colour_line (lines_from behind.now)))) }
 {
     let mut rest = behind;
     let mut number = before;

@@ -2,7 +2,7 @@
 ghost use Rattle.std.specs.Prelude.{◌≡◌, [], ◌∷◌, ◌++◌, codes, map, Err, None, Ok, Some};
 ghost use Rattle.ld_line.specs.Field.{fields};
 ghost use Rattle.ld_colour.specs.Definition.{defined_by};
-ghost use Rattle.ld_colour.specs.Table.{definitions_of, last_of, rgb_in};
+ghost use Rattle.ld_colour.specs.Table.{definitions_of, last_definition, rgb_in};
 ghost use Rattle.ld_colour.specs.declared.colour.Colour.TheVariants.{Code, Direct, Edge, EdgeOf, Main};
 ghost use Rattle.ld_colour.specs.declared.definition.DefinedEdge.TheVariants.{Value, ValueOf};
 
@@ -277,6 +277,6 @@ fn tables_by_definition()
     ensures outside { map (λ text. defined_by (fields text)) (codes "Red CODE 4 VALUE 0Xc91A09 EDGE 0" ∷ codes "Red CODE 4 VALUE #C91A09 EDGE 0 ALPHA 256" ∷ codes "Red CODE 4 VALUE #C91A09 EDGE 0 ALPHA" ∷ []) ≡ None ∷ None ∷ None ∷ [] }
     ensures file { definitions_of (codes "0 x" ++ 10 ∷ codes "0 !COLOUR A CODE 1 VALUE 0x0055bf EDGE #000002" ++ 10 ∷ []) ≡ Ok ((1, record { value = 0x0055BF; edge = Value 2 }) ∷ []) }
     ensures bad_line { definitions_of (codes "0 x" ++ 10 ∷ codes "0 !COLOUR X CODE 4 VALUE red EDGE 0" ++ 10 ∷ codes "0 !COLOUR") ≡ Err 2 }
-    ensures last_one { last_of ((4, record { value = 1; edge = Value 1 }) ∷ (4, record { value = 2; edge = Value 2 }) ∷ (5, record { value = 3; edge = Value 3 }) ∷ []) 4 ≡ Some (record { value = 2; edge = Value 2 }) }
-    ensures colours { map (rgb_in (last_of ((16, record { value = 1; edge = ValueOf 4 }) ∷ (4, record { value = 2; edge = ValueOf 16 }) ∷ []))) (Main ∷ Edge ∷ Code 4 ∷ EdgeOf 4 ∷ EdgeOf 5 ∷ Direct 9 ∷ []) ≡ Some 1 ∷ None ∷ Some 2 ∷ Some 1 ∷ None ∷ Some 9 ∷ [] }
+    ensures last_one { last_definition ((4, record { value = 1; edge = Value 1 }) ∷ (4, record { value = 2; edge = Value 2 }) ∷ (5, record { value = 3; edge = Value 3 }) ∷ []) 4 ≡ Some (record { value = 2; edge = Value 2 }) }
+    ensures colours { map (rgb_in (last_definition ((16, record { value = 1; edge = ValueOf 4 }) ∷ (4, record { value = 2; edge = ValueOf 16 }) ∷ []))) (Main ∷ Edge ∷ Code 4 ∷ EdgeOf 4 ∷ EdgeOf 5 ∷ Direct 9 ∷ []) ≡ Some 1 ∷ None ∷ Some 2 ∷ Some 1 ∷ None ∷ Some 9 ∷ [] }
 {}

@@ -11,7 +11,7 @@ use Rattle.ld_bfc.specs.declared.culling.State.{State}
 use Rattle.ld_colour.specs.Laws.{UnderLaws}
 use Rattle.ld_colour.specs.Colour.{under}
 use Rattle.ld_colour.specs.declared.colour.Colour.{Colour}
-use Rattle.ld_entry.specs.Answers.{answer, answer_of, answer_by, cut, entries_before, first_fault}
+use Rattle.ld_entry.specs.Answers.{answer, answer_of, answer_by, until_end, entries_before, first_fault}
 use Rattle.ld_entry.specs.Carrying.{Above, above_of, Outcome, beneath, carried_outcome, carried_entry, colour_above, fault_at, nothing_above}
 use Rattle.ld_entry.specs.Laws.{ActionLaw, CutLaws, tinted_entry}
 use Rattle.ld_entry.specs.NumberedTexts.{NumberedTexts}
@@ -21,7 +21,7 @@ use Rattle.ld_entry.specs.declared.entry.Entry.TheVariants.{Drawn, Part}
 use Rattle.ld_entry.specs.declared.entry.Fault.{Fault}
 use Rattle.ld_entry.specs.declared.entry.Source.{Source}
 use Rattle.ld_entry.specs.declared.entry.What.TheVariants.{Cycle, TooDeep}
-use Rattle.ld_engine.specs.Gathering.{CarriesFrom, Extends, Gathers, alone, enter_with, gathered, unless_ended}
+use Rattle.ld_engine.specs.Gathering.{CarriesFrom, Extends, Gathers, alone, enter_with, gathered, unless_fault}
 use Rattle.ld_engine.proofs.Gathered.{fault-gathered, full}
 
 -- ---- A reference.
@@ -151,11 +151,11 @@ module _ (most left : ℕ) (texts : NumberedTexts) (way : List TextId) (text : T
 
     pub line-done : Gathers most entries new None line_gives → IsGathered new after number
     line-done step behind =
-        step (lines_left after number ++ behind) ∙ sym (ap (λ os. cut most (map Ok entries ++ os)) (assoc behind)) ∙ so_far behind
+        step (lines_left after number ++ behind) ∙ sym (ap (λ os. until_end most (map Ok entries ++ os)) (assoc behind)) ∙ so_far behind
 
     pub line-ended : (fault : Fault) → Gathers most entries new (Some fault) line_gives → Gathers most old new (Some fault) (all left (alone texts way text))
     line-ended fault step behind =
-        step (lines_left after number ++ behind) ∙ sym (ap (λ os. cut most (map Ok entries ++ os)) (assoc behind)) ∙ so_far behind
+        step (lines_left after number ++ behind) ∙ sym (ap (λ os. until_end most (map Ok entries ++ os)) (assoc behind)) ∙ so_far behind
 
 -- ---- An answer.
 
@@ -174,17 +174,17 @@ all-tinted colour [] = refl
 all-tinted colour (entry ∷ entries) =
     ap (λ o. o ∷ map (carried_outcome (colour_above colour)) (map Ok entries)) (tinted-is colour entry) ∙ ap (λ os. Ok (tinted_entry colour entry) ∷ os) (all-tinted colour entries)
 
-ends-carried : (above : Above) (entries : List Entry) (end : Option Fault) → map (carried_outcome above) (map Ok entries ++ unless_ended end []) ≡ map (carried_outcome above) (map Ok entries) ++ unless_ended end []
+ends-carried : (above : Above) (entries : List Entry) (end : Option Fault) → map (carried_outcome above) (map Ok entries ++ unless_fault end []) ≡ map (carried_outcome above) (map Ok entries) ++ unless_fault end []
 ends-carried above [] None = refl
 ends-carried above [] (Some fault) = refl
 ends-carried above (entry ∷ entries) end = ap (λ os. carried_outcome above (Ok entry) ∷ os) (ends-carried above entries end)
 
-entries-of : (entries : List Entry) (end : Option Fault) → entries_before (map Ok entries ++ unless_ended end []) ≡ entries
+entries-of : (entries : List Entry) (end : Option Fault) → entries_before (map Ok entries ++ unless_fault end []) ≡ entries
 entries-of [] None = refl
 entries-of [] (Some fault) = refl
 entries-of (entry ∷ entries) end = ap (λ es. entry ∷ es) (entries-of entries end)
 
-fault-of : (entries : List Entry) (end : Option Fault) → first_fault (map Ok entries ++ unless_ended end []) ≡ end
+fault-of : (entries : List Entry) (end : Option Fault) → first_fault (map Ok entries ++ unless_fault end []) ≡ end
 fault-of [] None = refl
 fault-of [] (Some fault) = refl
 fault-of (entry ∷ entries) end = fault-of entries end
@@ -193,13 +193,13 @@ pub answered-is : CutLaws → ActionLaw → (texts : NumberedTexts) (depth most 
 unfolding answer
 answered-is cuts action texts depth most left root colour entries end is gives =
     let above = colour_above colour in
-    let shown = map Ok entries ++ unless_ended end [] in
+    let shown = map Ok entries ++ unless_fault end [] in
     let outcomes = all left (alone texts [] root) in
-    let same : cut most shown ≡ cut most outcomes = gives [] ∙ ap (cut most) (append-nil outcomes) in
+    let same : until_end most shown ≡ until_end most outcomes = gives [] ∙ ap (until_end most) (append-nil outcomes) in
     let below : answer_of most (map (carried_outcome above) shown) ≡ answer_of most (map (carried_outcome above) outcomes) =
-    sym (cuts.answers most (map (carried_outcome above) shown)) ∙ ap (answer_of most) (sym (cuts.below most above shown) ∙ ap (λ os. cut most (map (carried_outcome above) os)) same ∙ cuts.below most above outcomes) ∙ cuts.answers most (map (carried_outcome above) outcomes) in
-    let tinted_shown : map (carried_outcome above) shown ≡ map Ok (map (tinted_entry colour) entries) ++ unless_ended end [] = ends-carried above entries end ∙ ap (λ os. os ++ unless_ended end []) (all-tinted colour entries) in
-    sym (ap (λ es. answer_by most es (first_fault (map Ok (map (tinted_entry colour) entries) ++ unless_ended end []))) (entries-of (map (tinted_entry colour) entries) end) ∙ ap (answer_by most (map (tinted_entry colour) entries)) (fault-of (map (tinted_entry colour) entries) end))
+    sym (cuts.answers most (map (carried_outcome above) shown)) ∙ ap (answer_of most) (sym (cuts.below most above shown) ∙ ap (λ os. until_end most (map (carried_outcome above) os)) same ∙ cuts.below most above outcomes) ∙ cuts.answers most (map (carried_outcome above) outcomes) in
+    let tinted_shown : map (carried_outcome above) shown ≡ map Ok (map (tinted_entry colour) entries) ++ unless_fault end [] = ends-carried above entries end ∙ ap (λ os. os ++ unless_fault end []) (all-tinted colour entries) in
+    sym (ap (λ es. answer_by most es (first_fault (map Ok (map (tinted_entry colour) entries) ++ unless_fault end []))) (entries-of (map (tinted_entry colour) entries) end) ∙ ap (answer_by most (map (tinted_entry colour) entries)) (fault-of (map (tinted_entry colour) entries) end))
     ∙ sym (ap (answer_of most) tinted_shown) ∙ below
     ∙ ap (answer_of most) (sym (action.from_nothing above left texts [] root))
     ∙ ap (λ n. answer_of most (all n (context_of texts [] root above))) is

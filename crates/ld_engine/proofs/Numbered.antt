@@ -10,7 +10,7 @@ use Rattle.ld_line.specs.Reading.{line_of}
 use Rattle.ld_texts.specs.Known.{AreDistinct, file_at, id_of, is_part_at, lines_at}
 use Rattle.ld_texts.specs.Laws.{NumbersAgree}
 use Rattle.ld_texts.specs.Reach.{lines_in}
-use Rattle.ld_entry.specs.NumberedTexts.{found_from, file_is_part, is_part_in, known_files, known_texts, lines_of_file, number_of}
+use Rattle.ld_entry.specs.NumberedTexts.{found_from, file_is_part, is_part_in, known_files, known_texts, lines_of_file, text_id_of}
 use Rattle.ld_entry.specs.NumberedTexts as numbered
 use Rattle.ld_engine.specs.Found.{sought, sought_number}
 use Rattle.ld_engine.proofs.Reached.{sought-is}
@@ -25,7 +25,7 @@ unfolding file_at
 files-at known n = get-map (λ entry. entry.0) known n
 
 -- the number of a file
-pub number-of : (known : Known) (file : FileId) → number_of (known_files known) (Present file) ≡ option_map (λ n. record { 0 = n }) (id_of known file)
+pub number-of : (known : Known) (file : FileId) → text_id_of (known_files known) (Present file) ≡ option_map (λ n. record { 0 = n }) (id_of known file)
 unfolding id_of
 number-of known file = refl
 
@@ -47,8 +47,8 @@ module _ (numbers : NumbersAgree) (known : Known) (distinct : AreDistinct known)
           let there : false ≡ true = sym (ap is_some none) ∙ numbers.there known n ∙ lt-ltb n _ within in cc
 
   lines-in : (file : FileId) (text : Standing) → known_map known file ≡ Some text → lines_of_file (known_map known) (Some file) ≡ map line_of (lines_in text)
-  lines-in file None is = ap (λ o. map line_of (numbered.lines_in o)) is
-  lines-in file (Some lines) is = ap (λ o. map line_of (numbered.lines_in o)) is
+  lines-in file None is = ap (λ o. map line_of (numbered.standing_lines o)) is
+  lines-in file (Some lines) is = ap (λ o. map line_of (numbered.standing_lines o)) is
 
   pub lines-seen : (known_texts known).lines id ≡ map line_of (lines_in (lines_at known n))
   lines-seen = by (file_at known n) refl
@@ -75,7 +75,7 @@ module _ (numbers : NumbersAgree) (known : Known) (distinct : AreDistinct known)
   unfolding find
   found-seen name file is =
       ap (found_from (known_map known) (known_files known) name) (files-at known n ∙ is)
-      ∙ sought-is numbers (number_of (known_files known)) sought_number known name refl (λ folder. refl) (λ folder m at. number-of known (file_in folder name) ∙ ap (option_map (λ k. record { 0 = k })) at) (folders_of file.folder)
+      ∙ sought-is numbers (text_id_of (known_files known)) sought_number known name refl (λ folder. refl) (λ folder m at. number-of known (file_in folder name) ∙ ap (option_map (λ k. record { 0 = k })) at) (folders_of file.folder)
 
   pub none-seen : (name : List ℕ) → file_at known n ≡ None → (known_texts known).found id name ≡ None
   none-seen name is = ap (found_from (known_map known) (known_files known) name) (files-at known n ∙ is)

@@ -6,7 +6,7 @@ use Rattle.ld_names.specs.declared.file.TextId.{TextId}
 use Rattle.ld_line.specs.declared.line.Line.{Line}
 use Rattle.ld_bfc.specs.LineState.{next, start}
 use Rattle.ld_bfc.specs.declared.culling.State.{State}
-use Rattle.ld_entry.specs.Answers.{cut}
+use Rattle.ld_entry.specs.Answers.{until_end}
 use Rattle.ld_entry.specs.Carrying.{Outcome}
 use Rattle.ld_entry.specs.NumberedTexts.{NumberedTexts}
 use Rattle.ld_entry.specs.Outcomes.{all, all_by_line, concatenation, Context, line_outcomes, outcomes_by_line, outcomes_from}
@@ -25,7 +25,7 @@ by-line (suc left) context = refl
 -- ---- Outcomes that are all gathered.
 
 -- what is cut nowhere is all
-cut-nowhere : (most : ℕ) (entries : List Entry) (outcomes : List Outcome) → length entries ≤ most → cut most (map Ok entries) ≡ cut most outcomes → map Ok entries ≡ outcomes
+cut-nowhere : (most : ℕ) (entries : List Entry) (outcomes : List Outcome) → length entries ≤ most → until_end most (map Ok entries) ≡ until_end most outcomes → map Ok entries ≡ outcomes
 cut-nowhere most [] [] few same = refl
 cut-nowhere most [] (Err fault ∷ outcomes) few same = cc
 cut-nowhere zero [] (Ok entry ∷ outcomes) few same = cc
@@ -35,12 +35,12 @@ cut-nowhere (suc most) (entry ∷ entries) [] few same = cc
 cut-nowhere (suc most) (entry ∷ entries) (Err fault ∷ outcomes) few same = cc
 cut-nowhere (suc most) (entry ∷ entries) (Ok other ∷ outcomes) few same =
     let first : entry ≡ other = cc in
-    let rest : cut most (map Ok entries) ≡ cut most outcomes = cc in
+    let rest : until_end most (map Ok entries) ≡ until_end most outcomes = cc in
     ap (λ e. Ok e ∷ map Ok entries) first ∙ ap (λ os. Ok other ∷ os) (cut-nowhere most entries outcomes (omega arith) rest)
 
 all-gathered : (most : ℕ) (old new : List Entry) (outcomes : List Outcome) → length new ≤ most → Gathers most old new None outcomes → map Ok new ≡ map Ok old ++ outcomes
 all-gathered most old new outcomes few gives =
-    let same : cut most (map Ok new) ≡ cut most (map Ok old ++ outcomes) = ap (cut most) (sym (append-nil (map Ok new))) ∙ gives [] ∙ ap (λ os. cut most (map Ok old ++ os)) (append-nil outcomes) in
+    let same : until_end most (map Ok new) ≡ until_end most (map Ok old ++ outcomes) = ap (until_end most) (sym (append-nil (map Ok new))) ∙ gives [] ∙ ap (λ os. until_end most (map Ok old ++ os)) (append-nil outcomes) in
     cut-nowhere most new (map Ok old ++ outcomes) few same
 
 -- ---- The lines of a root.
@@ -72,7 +72,7 @@ module _ (most left : ℕ) (texts : NumberedTexts) (root : TextId) where
     root-done none =
         let lines : lines_left state number ≡ [] = ap (outcomes_from (enter_with left) here state (suc number)) (past-lines (texts.lines root) number none) in
         let whole : map Ok entries ≡ all left here = sym (append-nil (map Ok entries)) ∙ ap (λ ls. map Ok entries ++ concatenation ls) (sym lines) ∙ so_far.1 in
-        (λ behind. ap (λ os. cut most (os ++ behind)) whole, sym (append-nil ends) ∙ ap (λ ls. ends ++ line_ends (length entries) (map length ls)) (sym lines) ∙ so_far.2)
+        (λ behind. ap (λ os. until_end most (os ++ behind)) whole, sym (append-nil ends) ∙ ap (λ ls. ends ++ line_ends (length entries) (map length ls)) (sym lines) ∙ so_far.2)
 
     module _ (new : List Entry) (after : State) (line : Line) (at : slice_get (texts.lines root) number ≡ Some line) (follows : after ≡ next state line) where
       abbrev line_gives : List Outcome
@@ -95,12 +95,12 @@ module _ (most left : ℕ) (texts : NumberedTexts) (root : TextId) where
 
       root-faulted : (fault : Fault) → Gathers most entries new (Some fault) line_gives → Gathers most [] new (Some fault) (all left here)
       root-faulted fault gives behind =
-          gives (concatenation (lines_left after (number + 1)) ++ behind) ∙ ap (cut most) (behind-is behind)
+          gives (concatenation (lines_left after (number + 1)) ++ behind) ∙ ap (until_end most) (behind-is behind)
 
       root-full : most < length new → Gathers most entries new None line_gives → Gathers most [] new None (all left here)
       root-full many gives behind =
           let more = concatenation (lines_left after (number + 1)) ++ behind in
-          full most new behind more many ∙ gives more ∙ ap (cut most) (behind-is behind)
+          full most new behind more many ∙ gives more ∙ ap (until_end most) (behind-is behind)
 
       -- a fault or an entry too many stops the root
       pub root-stopped : (end : Option Fault) → (is_some end ≡ true) ⊎ (most < length new) → Gathers most entries new end line_gives → Gathers most [] new end (all left here)

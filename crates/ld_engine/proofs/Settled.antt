@@ -20,9 +20,9 @@ use Rattle.ld_entry.specs.Learnt.{IsInside as IsInSet, IsLearnt, WantsNothing}
 use Rattle.ld_entry.specs.Laws.{StandingLaw}
 use Rattle.ld_entry.specs.Answers.{answer, left_below}
 use Rattle.ld_entry.specs.Carrying.{colour_above}
-use Rattle.ld_entry.specs.NumberedTexts.{found_from, known_files, known_texts, lines_of_file, number_of, standing_texts}
+use Rattle.ld_entry.specs.NumberedTexts.{found_from, known_files, known_texts, lines_of_file, text_id_of, standing_texts}
 use Rattle.ld_entry.specs.NumberedTexts as numbered
-use Rattle.ld_steps.specs.Parts.{parts_of}
+use Rattle.ld_steps.specs.Parts.{step_parts}
 use Rattle.ld_engine.specs.Going.{Grows, IsInside}
 use Rattle.ld_engine.specs.Laws.{StandsForRoots}
 use Rattle.ld_engine.specs.Stepping.{root_outcomes, steps_in, with_steps}
@@ -120,8 +120,8 @@ module _ (numbers : NumbersAgree) (known : Known) where
     abbrev finds : List ℕ → Option TextId
     finds name = (known_texts known).found text name
 
-    finds-is : (name : List ℕ) (found : Found) → find (known_map known) file.folder name ≡ found → finds name ≡ number_of (known_files known) found
-    finds-is name found is = ap (found_from (known_map known) (known_files known) name) is_file ∙ ap (number_of (known_files known)) is
+    finds-is : (name : List ℕ) (found : Found) → find (known_map known) file.folder name ≡ found → finds name ≡ text_id_of (known_files known) found
+    finds-is name found is = ap (found_from (known_map known) (known_files known) name) is_file ∙ ap (text_id_of (known_files known)) is
 
     -- a reference
     found-settles : (word : ℕ) (placement : _) (name : List ℕ) (rest : List Line) (texts : List ℕ) → AreKnown texts → Onward rest → (found : Found) → find (known_map known) file.folder name ≡ found → going_on (λ more. lines_reach known file.folder more lines) (reached_by known texts name found) ≡ Reaches after → Settles final file text (line.Ref word placement (Some name) ∷ rest) texts after
@@ -253,13 +253,13 @@ root-lines numbers known shelf root id number =
     let at : slice_get (known_files known) id ≡ Some root = files-at known id ∙ numbers.file known root id number in
     let there : known_map known root ≡ Some (lines_at known id) = numbers.map known root ∙ ap (option_map (lines_at known)) number in
     let stands : standing (known_map known) shelf root ≡ Some (lines_at known id) = ap (λ text. Some (unwrap_or text (shelf root))) there in
-    ap (lines_of_file (standing (known_map known) shelf)) at ∙ ap (λ text. map line_of (numbered.lines_in text)) (stands ∙ sym there) ∙ sym (ap (lines_of_file (known_map known)) at)
+    ap (lines_of_file (standing (known_map known) shelf)) at ∙ ap (λ text. map line_of (numbered.standing_lines text)) (stands ∙ sym there) ∙ sym (ap (lines_of_file (known_map known)) at)
 
 -- so the known texts give for it what the texts as they stand give, in the same steps
 pub stands : NumbersAgree → StandingLaw → StandsForRoots
 unfolding steps_in
 stands numbers law known shelf distinct root id number none depth most colour =
     let settled = root-settles numbers known distinct root id (reach known root) refl number none in
-    let same : steps_in (standing_texts known shelf) depth (record { 0 = id }) colour ≡ steps_in (known_texts known) depth (record { 0 = id }) colour = ap (λ ls. parts_of ls (map length (root_outcomes (standing_texts known shelf) depth (record { 0 = id }) colour))) (root-lines numbers known shelf root id number) ∙ ap (λ os. parts_of ((known_texts known).lines (record { 0 = id })) (map length os)) (law.outcomes (inside settled.0) known shelf settled.2 (left_below depth []) [] (record { 0 = id }) (colour_above colour) settled.1) in
+    let same : steps_in (standing_texts known shelf) depth (record { 0 = id }) colour ≡ steps_in (known_texts known) depth (record { 0 = id }) colour = ap (λ ls. step_parts ls (map length (root_outcomes (standing_texts known shelf) depth (record { 0 = id }) colour))) (root-lines numbers known shelf root id number) ∙ ap (λ os. step_parts ((known_texts known).lines (record { 0 = id })) (map length os)) (law.outcomes (inside settled.0) known shelf settled.2 (left_below depth []) [] (record { 0 = id }) (colour_above colour) settled.1) in
     ap (λ steps. with_steps steps (answer (standing_texts known shelf) depth most (record { 0 = id }) colour)) same
     ∙ ap (with_steps (steps_in (known_texts known) depth (record { 0 = id }) colour)) (law.answers (inside settled.0) known shelf settled.2 depth most (record { 0 = id }) colour settled.1)

@@ -21,7 +21,7 @@ use Rattle.ld_entry.specs.declared.entry.Entry.{Entry}
 use Rattle.ld_entry.specs.declared.entry.Fault.{Fault}
 use Rattle.ld_entry.specs.declared.entry.Source.{Source}
 use Rattle.ld_steps.specs.Laws.{AreSteps, FollowOn, GiveEntries, PartLaw, StepLaws}
-use Rattle.ld_steps.specs.Parts.{part_of, parts_of}
+use Rattle.ld_steps.specs.Parts.{step_part, step_parts}
 use Rattle.ld_steps.specs.Steps.{shows, steps_of}
 use Rattle.ld_steps.specs.declared.step.StepMark.{StepMark}
 use Rattle.ld_engine.specs.Gathering.{alone, enter_with}
@@ -103,9 +103,9 @@ module _ (texts : NumberedTexts) (depth most : ℕ) (root : TextId) (colour : Co
   answer-steps parts (Err fault) answered is same = cc
   answer-steps parts (Ok entries) answered is same =
       let found = answer-is entries is in
-      let whole : record { entries = entries; steps = parts_of (texts.lines root) (map length lines) } ≡ answered = cc in
+      let whole : record { entries = entries; steps = step_parts (texts.lines root) (map length lines) } ≡ answered = cc in
       let size : sum (map length lines) ≡ length entries = sum-lengths lines ∙ found.1 in
-      subst (λ (a : Answer). AreSteps (length a.entries) a.steps) whole (subst (λ n. AreSteps n (parts_of (texts.lines root) (map length lines))) size (parts (texts.lines root) (map length lines) (gives-lines found.0)))
+      subst (λ (a : Answer). AreSteps (length a.entries) a.steps) whole (subst (λ n. AreSteps n (step_parts (texts.lines root) (map length lines))) size (parts (texts.lines root) (map length lines) (gives-lines found.0)))
 
 pub steps : PartLaw → StepsOfAnswers
 steps parts texts depth most root colour answered is =
@@ -120,7 +120,7 @@ ends-at before (count ∷ counts) (suc n) few =
     let rest = ends-at (before + count) counts n (omega arith) in
     rest ∙ omega (arith, sum-cons count (take n counts))
 
-parts-same : (lines : List Line) (counts ends : List ℕ) (before : ℕ) (marks : List StepMark) → ends ≡ 0 ∷ line_ends 0 counts → length counts ≡ length lines → before ≤ length lines → FollowOn lines before marks → map (part_by ends) marks ≡ map (part_of counts) marks
+parts-same : (lines : List Line) (counts ends : List ℕ) (before : ℕ) (marks : List StepMark) → ends ≡ 0 ∷ line_ends 0 counts → length counts ≡ length lines → before ≤ length lines → FollowOn lines before marks → map (part_by ends) marks ≡ map (step_part counts) marks
 parts-same lines counts ends before [] is size within follows = refl
 parts-same lines counts ends before (mark ∷ marks) is size within follows =
     let first : get_or ends (mark.first_line - 1) 0 ≡ sum (take (mark.first_line - 1) counts) = ap (λ es. get_or es (mark.first_line - 1) 0) is ∙ ends-at 0 counts (mark.first_line - 1) (omega (arith, follows.0)) ∙ omega arith in
@@ -128,7 +128,7 @@ parts-same lines counts ends before (mark ∷ marks) is size within follows =
     let rest = parts-same lines counts ends mark.last_line marks is size follows.2 follows.3 in
     ap (λ n. record { first = n; end = get_or ends mark.last_line 0; view = mark.view } ∷ map (part_by ends) marks) first
     ∙ ap (λ n. record { first = sum (take (mark.first_line - 1) counts); end = n; view = mark.view } ∷ map (part_by ends) marks) last
-    ∙ ap (λ ps. part_of counts mark ∷ ps) rest
+    ∙ ap (λ ps. step_part counts mark ∷ ps) rest
 
 ends-count : (before : ℕ) (counts : List ℕ) → length (line_ends before counts) ≡ length counts
 ends-count before [] = refl
@@ -163,10 +163,10 @@ module _ (action : ActionLaw) (texts : NumberedTexts) (depth : ℕ) (root : Text
 
   -- the steps by the ends of the root's lines
   pub stepped : (ends : List ℕ) → StepLaws → ends ≡ 0 ∷ line_ends 0 (map length bare) → map (part_by ends) (steps_of (texts.lines root)) ≡ steps_in texts depth root colour
-  unfolding steps_in parts_of
+  unfolding steps_in step_parts
   stepped ends laws is =
       parts-same (texts.lines root) (map length bare) ends 0 (steps_of (texts.lines root)) is bare-count (omega arith) (laws.follow (texts.lines root))
-      ∙ ap (λ ns. map (part_of ns) (steps_of (texts.lines root))) (sym counts-same)
+      ∙ ap (λ ns. map (step_part ns) (steps_of (texts.lines root))) (sym counts-same)
 
   pub stepped-within : (ends : List ℕ) → StepLaws → ends ≡ 0 ∷ line_ends 0 (map length bare) → All (IsWithin (length ends)) (steps_of (texts.lines root))
   stepped-within ends laws is =

@@ -1,7 +1,7 @@
 -- Outcomes that are gathered one after another: the entries so far, and what follows them.
 use Rattle.std.specs.Prelude.{◌≡◌, ◌++◌, ℕ, zero, suc, List, [], ◌∷◌, map, take, drop, Option, Some, None, Ok, Err}
 use Rattle.ld_names.specs.declared.file.TextId.{TextId}
-use Rattle.ld_entry.specs.Answers.{cut}
+use Rattle.ld_entry.specs.Answers.{until_end}
 use Rattle.ld_entry.specs.Carrying.{Above, Outcome, carried_outcome, nothing_above}
 use Rattle.ld_entry.specs.NumberedTexts.{NumberedTexts}
 use Rattle.ld_entry.specs.Outcomes.{Context, Enter, all, context_of}
@@ -9,13 +9,13 @@ use Rattle.ld_entry.specs.declared.entry.Entry.{Entry}
 use Rattle.ld_entry.specs.declared.entry.Fault.{Fault}
 
 -- what follows, unless a fault ends it
-abbrev pub unless_ended : Option Fault → List Outcome → List Outcome
-unless_ended None behind = behind
-unless_ended (Some fault) behind = Err fault ∷ []
+abbrev pub unless_fault : Option Fault → List Outcome → List Outcome
+unless_fault None behind = behind
+unless_fault (Some fault) behind = Err fault ∷ []
 
 -- entries, and what follows them unless a fault does, up to an entry too many
 abbrev pub gathered : ℕ → List Entry → Option Fault → List Outcome → List Outcome
-gathered most entries end behind = cut most (map Ok entries ++ unless_ended end behind)
+gathered most entries end behind = until_end most (map Ok entries ++ unless_fault end behind)
 
 -- What was gathered after a step: the entries and the end that it gave stand for these outcomes.
 abbrev pub Gathers : ℕ → List Entry → List Entry → Option Fault → List Outcome → Type 0

@@ -2,7 +2,7 @@
 use Rattle.std.specs.Prelude.{ℕ, List, [], length, map, Result, Ok, Err}
 use Rattle.ld_names.specs.declared.file.TextId.{TextId}
 use Rattle.ld_colour.specs.declared.colour.Colour.{Colour}
-use Rattle.ld_steps.specs.Parts.{parts_of}
+use Rattle.ld_steps.specs.Parts.{step_parts}
 use Rattle.ld_steps.specs.declared.step.StepPart.{StepPart}
 use Rattle.ld_entry.specs.Answers.{answer, left_below}
 use Rattle.ld_entry.specs.Carrying.{colour_above, Outcome}
@@ -18,7 +18,7 @@ root_outcomes texts depth root colour = all_by_line (left_below depth []) (conte
 
 -- The steps of a root, each with the range of the entries that its lines give. In an answer no line gives a fault.
 unfoldable pub steps_in : NumberedTexts → ℕ → TextId → Colour → List StepPart
-steps_in texts depth root colour = parts_of (texts.lines root) (map length (root_outcomes texts depth root colour))
+steps_in texts depth root colour = step_parts (texts.lines root) (map length (root_outcomes texts depth root colour))
 
 -- entries with these steps
 abbrev pub with_steps : List StepPart → Result (List Entry) Fault → Result Answer Fault

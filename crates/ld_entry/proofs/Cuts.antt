@@ -3,7 +3,7 @@ use Rattle.std.proofs.Common.{◌≡◌, ◌≤◌, ◌<◌, ℕ, zero, suc, Boo
 use Rattle.std.proofs.lemmas.Bool.{cases_lt, le-ltb, lt-ltb, ltb-false, ltb-true}
 use Rattle.std.proofs.lemmas.List.{map-append, take_all}
 use Rattle.std.specs.Prelude.{nat_lt, slice_get}
-use Rattle.ld_entry.specs.Answers.{answer_by, answer_of, cut, entries_before, first_fault, unless_too_many}
+use Rattle.ld_entry.specs.Answers.{answer_by, answer_of, until_end, entries_before, first_fault, unless_too_many}
 use Rattle.ld_entry.specs.Carrying.{Above, carried_entry, carried_outcome, Outcome}
 use Rattle.ld_entry.specs.Expansion.{end_of, first_entries}
 use Rattle.ld_entry.specs.Laws.{at_end, CutLaws}
@@ -55,20 +55,20 @@ length-no_fault (Ok entry ∷ xs) ys none =
 
 -- ---- Cuts.
 
-cut-twice : (most : ℕ) (xs : List Outcome) → cut most (cut most xs) ≡ cut most xs
+cut-twice : (most : ℕ) (xs : List Outcome) → until_end most (until_end most xs) ≡ until_end most xs
 cut-twice most [] = refl
 cut-twice most (Err e ∷ xs) = refl
 cut-twice zero (Ok entry ∷ xs) = refl
 cut-twice (suc most) (Ok entry ∷ xs) = ap (λ ys. Ok entry ∷ ys) (cut-twice most xs)
 
-cut-in_front : (most : ℕ) (xs ys : List Outcome) → cut most (cut most xs ++ ys) ≡ cut most (xs ++ ys)
+cut-in_front : (most : ℕ) (xs ys : List Outcome) → until_end most (until_end most xs ++ ys) ≡ until_end most (xs ++ ys)
 cut-in_front most [] ys = refl
 cut-in_front most (Err e ∷ xs) ys = refl
 cut-in_front zero (Ok entry ∷ xs) ys = refl
 cut-in_front (suc most) (Ok entry ∷ xs) ys = ap (λ zs. Ok entry ∷ zs) (cut-in_front most xs ys)
 
 -- a cut that leaves more, before one that leaves less
-cut-longer : (most more : ℕ) (xs : List Outcome) → most ≤ more → cut most (cut more xs) ≡ cut most xs
+cut-longer : (most more : ℕ) (xs : List Outcome) → most ≤ more → until_end most (until_end more xs) ≡ until_end most xs
 cut-longer most more [] le = refl
 cut-longer most more (Err e ∷ xs) le = refl
 cut-longer zero zero (Ok entry ∷ xs) le = refl
@@ -76,24 +76,24 @@ cut-longer zero (suc more) (Ok entry ∷ xs) le = refl
 cut-longer (suc most) zero (Ok entry ∷ xs) le = absurd (omega arith)
 cut-longer (suc most) (suc more) (Ok entry ∷ xs) le = ap (λ ys. Ok entry ∷ ys) (cut-longer most more xs (omega arith))
 
-cut-behind : (most more : ℕ) (xs ys : List Outcome) → most ≤ more → cut most (xs ++ cut more ys) ≡ cut most (xs ++ ys)
+cut-behind : (most more : ℕ) (xs ys : List Outcome) → most ≤ more → until_end most (xs ++ until_end more ys) ≡ until_end most (xs ++ ys)
 cut-behind most more [] ys le = cut-longer most more ys le
 cut-behind most more (Err e ∷ xs) ys le = refl
 cut-behind zero more (Ok entry ∷ xs) ys le = refl
 cut-behind (suc most) more (Ok entry ∷ xs) ys le = ap (λ zs. Ok entry ∷ zs) (cut-behind most more xs ys (omega arith))
 
 -- one outcome before two lists that are cut alike
-onto : (most : ℕ) (x : Outcome) (xs ys : List Outcome) → ((n : ℕ) → most ≡ suc n → cut n xs ≡ cut n ys) → cut most (x ∷ xs) ≡ cut most (x ∷ ys)
+onto : (most : ℕ) (x : Outcome) (xs ys : List Outcome) → ((n : ℕ) → most ≡ suc n → until_end n xs ≡ until_end n ys) → until_end most (x ∷ xs) ≡ until_end most (x ∷ ys)
 onto most (Err e) xs ys same = refl
 onto zero (Ok entry) xs ys same = refl
 onto (suc most) (Ok entry) xs ys same = ap (λ zs. Ok entry ∷ zs) (same most refl)
 
-cut-carried_outcome : (most more : ℕ) (above : Above) (xs : List Outcome) → most ≤ more → cut most (map (carried_outcome above) (cut more xs)) ≡ cut most (map (carried_outcome above) xs)
+cut-carried_outcome : (most more : ℕ) (above : Above) (xs : List Outcome) → most ≤ more → until_end most (map (carried_outcome above) (until_end more xs)) ≡ until_end most (map (carried_outcome above) xs)
 cut-carried_outcome most more above [] le = refl
 cut-carried_outcome most more above (Err e ∷ xs) le = refl
 cut-carried_outcome most zero above (Ok entry ∷ xs) le = onto most (carried_entry above entry) [] (map (carried_outcome above) xs) (λ n is. absurd (omega arith))
 cut-carried_outcome most (suc more) above (Ok entry ∷ xs) le =
-    onto most (carried_entry above entry) (map (carried_outcome above) (cut more xs)) (map (carried_outcome above) xs) (λ n is. cut-carried_outcome n more above xs (omega arith))
+    onto most (carried_entry above entry) (map (carried_outcome above) (until_end more xs)) (map (carried_outcome above) xs) (λ n is. cut-carried_outcome n more above xs (omega arith))
 
 -- ---- Answers of cuts.
 
@@ -111,12 +111,12 @@ unless_too_many-onto entry None entries (Some fault) = refl
 answer_by-onto : (most : ℕ) (entry : Entry) (entries : List Entry) (end : Option Fault) → answer_by (suc most) (entry ∷ entries) end ≡ before entry (answer_by most entries end)
 answer_by-onto most entry entries end = unless_too_many-onto entry (slice_get entries most) entries end
 
-answer_of-cut : (most : ℕ) (xs : List Outcome) → answer_of most (cut most xs) ≡ answer_of most xs
+answer_of-cut : (most : ℕ) (xs : List Outcome) → answer_of most (until_end most xs) ≡ answer_of most xs
 answer_of-cut most [] = refl
 answer_of-cut most (Err e ∷ xs) = refl
 answer_of-cut zero (Ok entry ∷ xs) = refl
 answer_of-cut (suc most) (Ok entry ∷ xs) =
-    answer_by-onto most entry (entries_before (cut most xs)) (first_fault (cut most xs)) ∙ ap (before entry) (answer_of-cut most xs) ∙ sym (answer_by-onto most entry (entries_before xs) (first_fault xs))
+    answer_by-onto most entry (entries_before (until_end most xs)) (first_fault (until_end most xs)) ∙ ap (before entry) (answer_of-cut most xs) ∙ sym (answer_by-onto most entry (entries_before xs) (first_fault xs))
 
 -- what stands behind an entry too many does not count
 too_many-any : (most : ℕ) (entries some more : List Entry) (end other : Option Fault) → most < length entries → unless_too_many (slice_get entries most) some end ≡ unless_too_many (slice_get entries most) more other
@@ -147,7 +147,7 @@ nat_lt-suc : (m n : ℕ) → nat_lt (suc m) (suc n) ≡ nat_lt m n
 nat_lt-suc m n =
     ⊎_elim (λ (lt : m < n). lt-ltb (suc m) (suc n) (omega arith) ∙ sym (lt-ltb m n lt)) (λ (ge : n ≤ m). le-ltb (suc m) (suc n) (omega arith) ∙ sym (le-ltb m n ge)) (cases_lt m n)
 
-cut-shown : (most : ℕ) (xs : List Outcome) → map Ok (first_entries most xs) ++ at_end (end_of most xs) ≡ cut most xs
+cut-shown : (most : ℕ) (xs : List Outcome) → map Ok (first_entries most xs) ++ at_end (end_of most xs) ≡ until_end most xs
 cut-shown most [] = rw (le-ltb most 0 (omega arith)) refl
 cut-shown most (Err e ∷ xs) = rw (le-ltb most 0 (omega arith)) refl
 cut-shown zero (Ok entry ∷ xs) = rw (lt-ltb 0 (suc (length (entries_before xs))) (omega arith)) refl
@@ -164,12 +164,12 @@ first_fault-shown [] None = refl
 first_fault-shown [] (Some e) = refl
 first_fault-shown (entry ∷ entries) end = first_fault-shown entries end
 
-cut-only : (most : ℕ) (xs : List Outcome) (entries : List Entry) (end : Option Fault) → map Ok entries ++ at_end end ≡ cut most xs → (entries ≡ first_entries most xs) × (end ≡ end_of most xs)
+cut-only : (most : ℕ) (xs : List Outcome) (entries : List Entry) (end : Option Fault) → map Ok entries ++ at_end end ≡ until_end most xs → (entries ≡ first_entries most xs) × (end ≡ end_of most xs)
 cut-only most xs entries end is =
     let same = is ∙ sym (cut-shown most xs) in
     (sym (entries_before-shown entries end) ∙ ap entries_before same ∙ entries_before-shown (first_entries most xs) (end_of most xs), sym (first_fault-shown entries end) ∙ ap first_fault same ∙ first_fault-shown (first_entries most xs) (end_of most xs))
 
-answer_by-shown : (most : ℕ) (xs : List Outcome) (entries : List Entry) (end : Option Fault) → map Ok entries ++ at_end end ≡ cut most xs → answer_by most entries end ≡ answer_of most xs
+answer_by-shown : (most : ℕ) (xs : List Outcome) (entries : List Entry) (end : Option Fault) → map Ok entries ++ at_end end ≡ until_end most xs → answer_by most entries end ≡ answer_of most xs
 answer_by-shown most xs entries end is =
     ap (λ es. answer_by most es end) (sym (entries_before-shown entries end)) ∙ ap (answer_by most (entries_before (map Ok entries ++ at_end end))) (sym (first_fault-shown entries end)) ∙ ap (answer_of most) is ∙ answer_of-cut most xs
 

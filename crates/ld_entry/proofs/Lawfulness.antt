@@ -22,7 +22,7 @@ use Rattle.ld_entry.specs.Answers.{answer, entries_before, first_fault, left_bel
 use Rattle.ld_entry.specs.Carrying.{Above, at_points, carried_entry, colour_above, fault_at, Link, moved_points, onto_moved, or_source, Outcome, through, through_link, winding_turned}
 use Rattle.ld_entry.specs.Lawful.{IsLawfulEntry, IsLawfulOutcome, zero_point}
 use Rattle.ld_entry.specs.Laws.{LawfulLaw}
-use Rattle.ld_entry.specs.NumberedTexts.{lines_in, lines_of_file, texts_over}
+use Rattle.ld_entry.specs.NumberedTexts.{standing_lines, lines_of_file, texts_over}
 use Rattle.ld_entry.specs.Outcomes.{all, all_by_line, concatenation, Context, context_below, context_of, Enter, file_outcomes, found_outcomes, is_on_way, line_outcomes, outcomes_by_line, outcomes_from, outer_of, own_entry, part_outcomes}
 use Rattle.ld_entry.specs.declared.entry.Entry.{Entry}
 use Rattle.ld_entry.specs.declared.entry.Entry.TheVariants.{Drawn, Part}
@@ -153,7 +153,7 @@ module _ (laws : LawfulColours) where
 
   file-zeros : (texts : Map) (file : Option FileId) → HaveZeros (lines_of_file texts file)
   file-zeros texts None = tt
-  file-zeros texts (Some file) = lines-zeros (lines_in (texts file))
+  file-zeros texts (Some file) = lines-zeros (standing_lines (texts file))
 
   outcomes-lawful : (texts : Map) (files : List FileId) (left : ℕ) (way : List TextId) (text : TextId) (above : Above) → is_lawful above.colour ≡ true → AreLawful (all left (context_of (texts_over texts files) way text above))
   outcomes-lawful texts files left way text above current = all-lawful left (context_of (texts_over texts files) way text above) (current, λ other. file-zeros texts (slice_get files other.0))

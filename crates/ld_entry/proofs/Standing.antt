@@ -14,7 +14,7 @@ use Rattle.ld_entry.specs.Carrying.{Above, colour_above, nothing_above}
 use Rattle.ld_entry.specs.Expansion.{expansion_of, neutral_expansion}
 use Rattle.ld_entry.specs.Laws.{StandingLaw}
 use Rattle.ld_entry.specs.Learnt.{IsLearnt, WantsNothing}
-use Rattle.ld_entry.specs.NumberedTexts.{file_is_part, found_from, is_part_in, known_files, known_texts, lines_in, lines_of_file, number_of, standing_texts}
+use Rattle.ld_entry.specs.NumberedTexts.{file_is_part, found_from, is_part_in, known_files, known_texts, standing_lines, lines_of_file, text_id_of, standing_texts}
 use Rattle.ld_entry.specs.Outcomes.{all_by_line, concatenation, context_of}
 
 -- a known file stands as it is known
@@ -42,12 +42,12 @@ module _ (stays : FindStays) (equality : IsFileEquality) where
       let map = known_map known in
       let found : Map → Option FileId → Option TextId = λ texts from. found_from texts (known_files known) name from in
       let find_same = stays.more map (standing map shelf) file.folder name (λ other said. standing-known map shelf other said) nothing.0 in
-      let same : found (standing map shelf) (slice_get (known_files known) text.0) ≡ found map (slice_get (known_files known) text.0) = ap (found (standing map shelf)) at ∙ ap (number_of (known_files known)) find_same ∙ sym (ap (found map) at) in
+      let same : found (standing map shelf) (slice_get (known_files known) text.0) ≡ found map (slice_get (known_files known) text.0) = ap (found (standing map shelf)) at ∙ ap (text_id_of (known_files known)) find_same ∙ sym (ap (found map) at) in
       (same, nothing.1, finds-same inside known shelf text file at lines nothing.2)
   finds-same inside known shelf text file at (line ∷ lines) nothing = finds-same inside known shelf text file at lines nothing
 
   agree : (inside : TextId → Bool) (known : Known) (shelf : FileId → Text) → IsLearnt inside known → Agree inside (known_texts known) (standing_texts known shelf)
-  agree inside known shelf learnt = record { lines = λ text within. by_map (λ m. lines_of_file m) (λ m. λ m'. λ file same. ap (λ t. map line_of (lines_in t)) same) text within; is_part = λ text within. by_map (λ m. file_is_part m) (λ m. λ m'. λ file same. ap (λ t. is_part_in file.folder t) same) text within; finds = λ text within. let at = learnt text within in finds-same inside known shelf text at.0 at.1 ((known_texts known).lines text) at.2 }
+  agree inside known shelf learnt = record { lines = λ text within. by_map (λ m. lines_of_file m) (λ m. λ m'. λ file same. ap (λ t. map line_of (standing_lines t)) same) text within; is_part = λ text within. by_map (λ m. file_is_part m) (λ m. λ m'. λ file same. ap (λ t. is_part_in file.folder t) same) text within; finds = λ text within. let at = learnt text within in finds-same inside known shelf text at.0 at.1 ((known_texts known).lines text) at.2 }
     where
       by_map : {A : Type 0} (of : Map → Option FileId → A) → ((m m' : Map) (file : FileId) → m file ≡ m' file → of m (Some file) ≡ of m' (Some file)) → (text : TextId) → inside text ≡ true → of (standing (known_map known) shelf) (slice_get (known_files known) text.0) ≡ of (known_map known) (slice_get (known_files known) text.0)
       by_map of alike text within =

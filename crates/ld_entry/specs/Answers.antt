@@ -52,8 +52,8 @@ unfoldable pub answer : NumberedTexts → ℕ → ℕ → TextId → Colour → 
 answer texts depth most root colour = answer_of most (all (left_below depth []) (context_of texts [] root (colour_above colour)))
 
 -- the outcomes up to and with the first fault, or the first entry too many
-abbrev pub cut : ℕ → List Outcome → List Outcome
-cut most [] = []
-cut most (Err fault ∷ outcomes) = Err fault ∷ []
-cut zero (Ok entry ∷ outcomes) = Ok entry ∷ []
-cut (suc most) (Ok entry ∷ outcomes) = Ok entry ∷ cut most outcomes
+abbrev pub until_end : ℕ → List Outcome → List Outcome
+until_end most [] = []
+until_end most (Err fault ∷ outcomes) = Err fault ∷ []
+until_end zero (Ok entry ∷ outcomes) = Ok entry ∷ []
+until_end (suc most) (Ok entry ∷ outcomes) = Ok entry ∷ until_end most outcomes

@@ -8,7 +8,7 @@ use Rattle.ld_bfc.specs.LineState.{state_before}
 use Rattle.ld_colour.specs.Colour.{is_lawful, under}
 use Rattle.ld_colour.specs.declared.colour.Colour.{Colour}
 use Rattle.ld_colour.specs.declared.colour.Colour.TheVariants.{Code}
-use Rattle.ld_entry.specs.Answers.{answer, answer_by, answer_of, cut, entries_before, first_fault, left_below}
+use Rattle.ld_entry.specs.Answers.{answer, answer_by, answer_of, until_end, entries_before, first_fault, left_below}
 use Rattle.ld_entry.specs.Carrying.{Above, above_of, beneath, carried_entry, carried_outcome, nothing_above, Outcome}
 use Rattle.ld_entry.specs.Expansion.{end_of, Expansion, expansion_of, first_entries, neutral_expansion}
 use Rattle.ld_entry.specs.Lawful.{IsLawfulEntry, IsLawfulOutcome}
@@ -82,16 +82,16 @@ at_end (Some fault) = Err fault ∷ []
 
 -- What a cut leaves out does not count.
 pub record CutLaws : Type 0 where
-  pub twice : (most : ℕ) (outcomes : List Outcome) → cut most (cut most outcomes) ≡ cut most outcomes
-  pub in_front : (most : ℕ) (outcomes behind : List Outcome) → cut most (cut most outcomes ++ behind) ≡ cut most (outcomes ++ behind)
-  pub behind : (most : ℕ) (before outcomes : List Outcome) → cut most (before ++ cut most outcomes) ≡ cut most (before ++ outcomes)
-  pub below : (most : ℕ) (above : Above) (outcomes : List Outcome) → cut most (map (carried_outcome above) (cut most outcomes)) ≡ cut most (map (carried_outcome above) outcomes)
-  pub answers : (most : ℕ) (outcomes : List Outcome) → answer_of most (cut most outcomes) ≡ answer_of most outcomes
+  pub twice : (most : ℕ) (outcomes : List Outcome) → until_end most (until_end most outcomes) ≡ until_end most outcomes
+  pub in_front : (most : ℕ) (outcomes behind : List Outcome) → until_end most (until_end most outcomes ++ behind) ≡ until_end most (outcomes ++ behind)
+  pub behind : (most : ℕ) (before outcomes : List Outcome) → until_end most (before ++ until_end most outcomes) ≡ until_end most (before ++ outcomes)
+  pub below : (most : ℕ) (above : Above) (outcomes : List Outcome) → until_end most (map (carried_outcome above) (until_end most outcomes)) ≡ until_end most (map (carried_outcome above) outcomes)
+  pub answers : (most : ℕ) (outcomes : List Outcome) → answer_of most (until_end most outcomes) ≡ answer_of most outcomes
   -- a cut is the first entries and their end, and nothing else is that cut
-  pub shown : (most : ℕ) (outcomes : List Outcome) → map Ok (first_entries most outcomes) ++ at_end (end_of most outcomes) ≡ cut most outcomes
-  pub only : (most : ℕ) (outcomes : List Outcome) (entries : List Entry) (end : Option Fault) → map Ok entries ++ at_end end ≡ cut most outcomes → (entries ≡ first_entries most outcomes) × (end ≡ end_of most outcomes)
+  pub shown : (most : ℕ) (outcomes : List Outcome) → map Ok (first_entries most outcomes) ++ at_end (end_of most outcomes) ≡ until_end most outcomes
+  pub only : (most : ℕ) (outcomes : List Outcome) (entries : List Entry) (end : Option Fault) → map Ok entries ++ at_end end ≡ until_end most outcomes → (entries ≡ first_entries most outcomes) × (end ≡ end_of most outcomes)
   -- so entries and an end that are a cut give the answer
-  pub shown_answer : (most : ℕ) (outcomes : List Outcome) (entries : List Entry) (end : Option Fault) → map Ok entries ++ at_end end ≡ cut most outcomes → answer_by most entries end ≡ answer_of most outcomes
+  pub shown_answer : (most : ℕ) (outcomes : List Outcome) (entries : List Entry) (end : Option Fault) → map Ok entries ++ at_end end ≡ until_end most outcomes → answer_by most entries end ≡ answer_of most outcomes
 
 -- ---- The ends of lines.
 

@@ -15,16 +15,16 @@ pub record NumberedTexts : Type 0 where
   pub found : TextId → List ℕ → Option TextId
 
 -- a file that is absent has no lines, and is no part text
-abbrev pub lines_in : Option Text → List (List ℕ)
-lines_in (Some (Some lines)) = lines
-lines_in text = []
+abbrev pub standing_lines : Option Text → List (List ℕ)
+standing_lines (Some (Some lines)) = lines
+standing_lines text = []
 
 abbrev pub is_part_in : Folder → Option Text → Bool
 is_part_in folder (Some (Some lines)) = is_part_text folder lines
 is_part_in folder text = false
 
 abbrev pub lines_of_file : Map → Option FileId → List Line
-lines_of_file texts (Some file) = map line_of (lines_in (texts file))
+lines_of_file texts (Some file) = map line_of (standing_lines (texts file))
 lines_of_file texts None = []
 
 abbrev pub file_is_part : Map → Option FileId → Bool
@@ -33,13 +33,13 @@ file_is_part texts None = false
 
 -- The number of a file that was found, which is its place among the files. A file that has none is not found: where
 -- nothing is wanted there is no such file, and nothing is unknown.
-abbrev pub number_of : List FileId → Found → Option TextId
-number_of files (Present file) = option_map (λ place. record { 0 = place }) (position (same_file file) files)
-number_of files Absent = None
-number_of files (Unknown folder) = None
+abbrev pub text_id_of : List FileId → Found → Option TextId
+text_id_of files (Present file) = option_map (λ place. record { 0 = place }) (position (same_file file) files)
+text_id_of files Absent = None
+text_id_of files (Unknown folder) = None
 
 abbrev pub found_from : Map → List FileId → List ℕ → Option FileId → Option TextId
-found_from texts files name (Some file) = number_of files (find texts file.folder name)
+found_from texts files name (Some file) = text_id_of files (find texts file.folder name)
 found_from texts files name None = None
 
 -- the texts of a map, numbered by a list of files

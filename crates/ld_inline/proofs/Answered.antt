@@ -18,7 +18,7 @@ use Rattle.ld_entry.specs.declared.entry.Entry.{Entry}
 use Rattle.ld_entry.specs.declared.entry.Fault.{Fault}
 use Rattle.ld_entry.specs.declared.entry.Source.{Source}
 use Rattle.ld_steps.specs.Laws.{AreSteps, GiveEntries, PartLaw}
-use Rattle.ld_steps.specs.Parts.{parts_of}
+use Rattle.ld_steps.specs.Parts.{step_parts}
 use Rattle.ld_steps.specs.Steps.{shows}
 use Rattle.ld_inline.specs.Laws.{AnswersInline}
 use Rattle.ld_inline.specs.Meaning.{steps_of_answer}
@@ -74,7 +74,7 @@ module _ (part_law : PartLaw) (texts : NumberedTexts) (depth most : ℕ) (root :
       let outcomes = concatenation by_line in
       let found = answered-by (slice_get (entries_before outcomes) most) (entries_before outcomes) entries (first_fault outcomes) is in
       let size : sum (map length by_line) ≡ length entries = sum-lengths by_line ∙ all-entries outcomes found.0 ∙ ap length found.1 in
-      subst (λ n. AreSteps n (parts_of (texts.lines root) (map length by_line))) size (part_law (texts.lines root) (map length by_line) (text-gives (left_below depth []) context found.0))
+      subst (λ n. AreSteps n (step_parts (texts.lines root) (map length by_line))) size (part_law (texts.lines root) (map length by_line) (text-gives (left_below depth []) context found.0))
 
 pub answers-inline : LawfulLaw → PartLaw → AnswersInline
 answers-inline lawful part_law texts files depth most root colour entries current is =

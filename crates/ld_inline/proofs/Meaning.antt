@@ -15,11 +15,11 @@ use Rattle.ld_colour.specs.declared.colour.Colour.TheVariants.{Main}
 use Rattle.ld_entry.specs.Answers.{answer, answer_by, answer_of, entries_before, first_fault, left_below, unless_too_many}
 use Rattle.ld_entry.specs.Carrying.{Outcome, colour_above}
 use Rattle.ld_entry.specs.Lawful.{IsLawfulEntry}
-use Rattle.ld_entry.specs.NumberedTexts.{NumberedTexts, lines_in}
+use Rattle.ld_entry.specs.NumberedTexts.{NumberedTexts, standing_lines}
 use Rattle.ld_entry.specs.Outcomes.{all_by_line, concatenation, context_of, outcomes_from}
 use Rattle.ld_entry.specs.declared.entry.Entry.{Entry}
 use Rattle.ld_steps.specs.Laws.{AreSteps}
-use Rattle.ld_steps.specs.Parts.{parts_of}
+use Rattle.ld_steps.specs.Parts.{step_parts}
 use Rattle.ld_steps.specs.declared.step.StepPart.{StepPart}
 use Rattle.ld_inline.specs.Flat.{Shape, flat, flat_shape, shape_of, shapes_of}
 use Rattle.ld_inline.specs.Inside.Shown.{AreShownSteps, IsShown}
@@ -68,7 +68,7 @@ unfolding known_map
 only-known name lines = ap (λ b. cond b (Some (Some lines)) None) (same-itself name)
 
 only-lines : (name : List ℕ) (lines : List (List ℕ)) → (only_text name lines).lines first_text ≡ map line_of lines
-only-lines name lines = ap (λ text. map line_of (lines_in text)) (only-known name lines)
+only-lines name lines = ap (λ text. map line_of (standing_lines text)) (only-known name lines)
 
 -- ---- All of it.
 
@@ -93,7 +93,7 @@ module _ (reads : Reads) (under_laws : UnderLaws) (table : Counting) (finds : Fi
         entries = entries_before outcomes;
         answered = answered-all most outcomes alone.0 (omega (arith, size, few));
         same_entries = alone.1;
-        same_steps = ap (λ ls. parts_of ls (map length by_line)) lines ∙ ap (parts_of (said table entries steps)) (lengths-seen by_line ∙ ap (map length) given) ∙ parts-again table entries steps are;
+        same_steps = ap (λ ls. step_parts ls (map length by_line)) lines ∙ ap (step_parts (said table entries steps)) (lengths-seen by_line ∙ ap (map length) given) ∙ parts-again table entries steps are;
       }
 
   pub means-flat : (text : List ℕ) → text ≡ text_of table entries steps → MeansFlat entries steps table text

@@ -33,7 +33,7 @@ use Rattle.ld_steps.specs.declared.step.StepPart.{StepPart}
 use Rattle.ld_steps.specs.declared.step.Turn.{Turn}
 use Rattle.ld_inline.specs.Flat.{flat_colour, flat_points}
 use Rattle.ld_inline.specs.Inside.Shown.{AreFourPoints, AreShownSteps, IsShown, IsShownColour, IsShownRotation}
-use Rattle.ld_inline.specs.Text.{Words, clip_lines, colour_text, drawn_words, entries_in, entries_lines, entry_lines, stands_behind, step_rotation, stepped_words, steps_lines, text_of, written_points}
+use Rattle.ld_inline.specs.Text.{Words, clip_lines, written_colour, drawn_words, entries_in, entries_lines, entry_lines, stands_behind, step_rotation, stepped_words, steps_lines, text_of, written_points}
 
 -- what is known of how words and lines are read
 pub record Reads : Type 0 where
@@ -64,14 +64,14 @@ value_fits (Some value) fits = fits
 abbrev IsColour : Colour → Type 0
 IsColour colour = (is_lawful colour ≡ true) × IsShownColour colour
 
-colour_is_word : (r : Reads) (table : Counting) (colour : Colour) → IsColour colour → is_word (colour_text table colour) ≡ true
+colour_is_word : (r : Reads) (table : Counting) (colour : Colour) → IsColour colour → is_word (written_colour table colour) ≡ true
 colour_is_word r table Main is = refl
 colour_is_word r table Edge is = refl
 colour_is_word r table (Code code) is = r.colours.decimal_word code is.1
 colour_is_word r table (EdgeOf code) is = r.colours.direct_word (edge_value table code)
 colour_is_word r table (Direct value) is = r.colours.direct_word value
 
-colour_is_number : (r : Reads) (table : Counting) → FindsRgb table → (colour : Colour) → IsColour colour → colour_word (colour_text table colour) ≡ Some (colour_number table colour)
+colour_is_number : (r : Reads) (table : Counting) → FindsRgb table → (colour : Colour) → IsColour colour → colour_word (written_colour table colour) ≡ Some (colour_number table colour)
 unfolding colour_word
 colour_is_number r table finds Main is = refl
 colour_is_number r table finds Edge is = refl
@@ -212,17 +212,17 @@ module _ (r : Reads) where
   say_rotation (Some word) shown more says s = say_line _ (Rot word) more says (r.steps.words word shown) (r.steps.rotation word shown) s
 
   module _ (table : Counting) (finds : FindsRgb table) where
-    drawn_same : (kind : Kind) (winding : Winding) (colour : Colour) (points : List Point) → AreWritten kind winding points → drawn_words table kind winding colour points ≡ draw_words kind (colour_text table colour) (flat_points kind winding points)
-    drawn_same kind winding colour points written = ap (λ ps. kind_word kind ∷ colour_text table colour ∷ map dec_text (flat_map coordinates ps)) written.used
+    drawn_same : (kind : Kind) (winding : Winding) (colour : Colour) (points : List Point) → AreWritten kind winding points → drawn_words table kind winding colour points ≡ draw_words kind (written_colour table colour) (flat_points kind winding points)
+    drawn_same kind winding colour points written = ap (λ ps. kind_word kind ∷ written_colour table colour ∷ map dec_text (flat_map coordinates ps)) written.used
 
     say_entry : (stands : Bool) (entry : Entry) → IsShown entry → IsLawfulEntry entry → Say (entry_lines table stands entry) (said_entry table stands entry)
     say_entry stands (Part file colour source) shown lawful = say_none
     say_entry stands (Drawn kind certified clip winding colour source points) shown lawful =
         let written = points_written kind winding points shown.1 lawful.1 in
         let colours : IsColour colour = (lawful.0, shown.0) in
-        let words = draw_words kind (colour_text table colour) (flat_points kind winding points) in
+        let words = draw_words kind (written_colour table colour) (flat_points kind winding points) in
         let is_word_colour = colour_is_word r table colour colours in
-        let drawn : Say (words ∷ []) (Draw kind (colour_number table colour) (flat_points kind winding points) ∷ []) = say_line words (Draw kind (colour_number table colour) (flat_points kind winding points)) [] [] (r.drawn.words kind (colour_text table colour) (flat_points kind winding points) is_word_colour written.shown) (r.drawn.line kind (colour_text table colour) (colour_number table colour) (flat_points kind winding points) is_word_colour (colour_is_number r table finds colour colours) written.shown) say_none in
+        let drawn : Say (words ∷ []) (Draw kind (colour_number table colour) (flat_points kind winding points) ∷ []) = say_line words (Draw kind (colour_number table colour) (flat_points kind winding points)) [] [] (r.drawn.words kind (written_colour table colour) (flat_points kind winding points) is_word_colour written.shown) (r.drawn.line kind (written_colour table colour) (colour_number table colour) (flat_points kind winding points) is_word_colour (colour_is_number r table finds colour colours) written.shown) say_none in
         say_append (clip_lines stands (certified && clip)) (drawn_words table kind winding colour points ∷ []) (said_clip stands (certified && clip)) (Draw kind (colour_number table colour) (flat_points kind winding points) ∷ []) (say_clip stands (certified && clip))
         (subst (λ ws. Say (ws ∷ []) (Draw kind (colour_number table colour) (flat_points kind winding points) ∷ [])) (sym (drawn_same kind winding colour points written)) drawn)
 

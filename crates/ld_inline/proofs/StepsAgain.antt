@@ -16,8 +16,8 @@ use Rattle.ld_entry.specs.Outcomes.{concatenation}
 use Rattle.ld_entry.specs.declared.entry.Entry.{Entry}
 use Rattle.ld_entry.specs.declared.entry.Entry.TheVariants.{Drawn, Part}
 use Rattle.ld_steps.specs.Laws.{AreNextViews, AreSteps, Cover}
-use Rattle.ld_steps.specs.Parts.{part_of, parts_of}
-use Rattle.ld_steps.specs.Steps.{last_end, last_lines, last_of, shows, step_ends, step_lines, steps_between, steps_of}
+use Rattle.ld_steps.specs.Parts.{step_part, step_parts}
+use Rattle.ld_steps.specs.Steps.{last_end, last_lines, last_number, shows, step_ends, step_lines, steps_between, steps_of}
 use Rattle.ld_steps.specs.View.{view_behind, viewed}
 use Rattle.ld_steps.specs.declared.step.StepPart.{StepPart}
 use Rattle.ld_steps.specs.declared.step.Turn.{Turn}
@@ -143,14 +143,14 @@ more-lines table entries view stands step steps before =
     let behind = said_steps table entries step.view (fold stands_behind stands (entries_in entries step)) steps in
     entries-lines table before stands (entries_in entries step) (said_rotation rotation ∷ behind) ∙ rotation-line (before + length (said_entries table stands (entries_in entries step))) rotation behind
 
-last-line : (table : Counting) (entries : List Entry) (view : List Turn) (stands : Bool) (steps : List StepPart) (before : ℕ) → last_of before (step_lines before (said_steps table entries view stands steps)) ≡ before + length (said_steps table entries view stands steps)
+last-line : (table : Counting) (entries : List Entry) (view : List Turn) (stands : Bool) (steps : List StepPart) (before : ℕ) → last_number before (step_lines before (said_steps table entries view stands steps)) ≡ before + length (said_steps table entries view stands steps)
 last-line table entries view stands [] before = omega arith
 last-line table entries view stands (step ∷ steps) before =
     let own = said_entries table stands (entries_in entries step) in
     let behind = said_steps table entries step.view (fold stands_behind stands (entries_in entries step)) steps in
     let size = length-append own (said_rotation (step_rotation view step.view) ∷ behind) in
     let same : step_end table entries stands step before + length behind ≡ before + length (own ++ said_rotation (step_rotation view step.view) ∷ behind) = omega (arith, size) in
-    ap (last_of before) (more-lines table entries view stands step steps before) ∙ last-line table entries step.view (fold stands_behind stands (entries_in entries step)) steps (step_end table entries stands step before) ∙ same
+    ap (last_number before) (more-lines table entries view stands step steps before) ∙ last-line table entries step.view (fold stands_behind stands (entries_in entries step)) steps (step_end table entries stands step before) ∙ same
 
 -- steps end with their step lines, and nothing stands behind the last one
 ends-are : (table : Counting) (entries : List Entry) (step : StepPart) (steps : List StepPart) → step_ends (said table entries (step ∷ steps)) ≡ step_lines 1 (said_steps table entries [] true (step ∷ steps))
@@ -158,7 +158,7 @@ ends-are table entries step steps =
     let lines = said_steps table entries [] true (step ∷ steps) in
     let whole = said table entries (step ∷ steps) in
     let ends = more-lines table entries [] true step steps 1 in
-    let last : last_of 0 (step_lines 1 lines) ≡ length whole = ap (last_of 0) ends ∙ ap (last_of 1) (sym ends) ∙ last-line table entries [] true (step ∷ steps) 1 ∙ omega arith in
+    let last : last_number 0 (step_lines 1 lines) ≡ length whole = ap (last_number 0) ends ∙ ap (last_number 1) (sym ends) ∙ last-line table entries [] true (step ∷ steps) 1 ∙ omega arith in
     let none : list_any shows (last_lines whole) ≡ false = ap (λ n. list_any shows (drop n whole)) last ∙ ap (list_any shows) (drop-length whole) in
     ap (λ some. step_lines 1 lines ++ last_end (step_lines 1 lines) some (length whole)) none
     ∙ ap (λ es. step_lines 1 lines ++ last_end es false (length whole)) ends
@@ -228,7 +228,7 @@ module _ (table : Counting) (entries : List Entry) (whole : List Line) (counts :
 
   abbrev Marks : List StepPart → Type 0
   Marks steps =
-      (stands : Bool) (view : List Turn) (before from : ℕ) (done : List Line) (so_far : List ℕ) → Done before from view done so_far → whole ≡ done ++ said_steps table entries view stands steps → counts ≡ so_far ++ map length (seen_steps table entries stands steps) → AreNextViews view (map (λ step. step.view) steps) → map (part_of counts) (steps_between whole before (step_lines (length done) (said_steps table entries view stands steps))) ≡ step_ranges entries from steps
+      (stands : Bool) (view : List Turn) (before from : ℕ) (done : List Line) (so_far : List ℕ) → Done before from view done so_far → whole ≡ done ++ said_steps table entries view stands steps → counts ≡ so_far ++ map length (seen_steps table entries stands steps) → AreNextViews view (map (λ step. step.view) steps) → map (step_part counts) (steps_between whole before (step_lines (length done) (said_steps table entries view stands steps))) ≡ step_ranges entries from steps
 
   next_done : (step : StepPart) (stands : Bool) (view : List Turn) (before from : ℕ) (done : List Line) (so_far rest : List ℕ) → Done before from view done so_far → counts ≡ (so_far ++ map length (seen_entries table stands (entries_in entries step)) ++ 0 ∷ []) ++ rest → rotated_by (step_rotation view step.view) view ≡ step.view → Done (step_end table entries stands step (length done)) (from + length (shapes_of (entries_in entries step))) step.view (done ++ said_entries table stands (entries_in entries step) ++ said_rotation (step_rotation view step.view) ∷ []) (so_far ++ map length (seen_entries table stands (entries_in entries step)) ++ 0 ∷ [])
   next_done step stands view before from done so_far rest d are rotates =
@@ -270,9 +270,9 @@ module _ (table : Counting) (entries : List Entry) (whole : List Line) (counts :
       let d' = next_done step stands view before from done so_far (map length more_seen) d counts' (view_again view step.view views.0) in
       let first : sum (take (before + 1 - 1) counts) ≡ from = let same : before + 1 - 1 ≡ before = omega arith in ap (λ n. sum (take n counts)) same ∙ d.begins in
       let seen : view_behind whole end ≡ step.view = ap (λ w. fold viewed [] (take end w)) whole' ∙ ap (fold viewed []) (take_at done' more end size) ∙ d'.seen in
-      let rest : map (part_of counts) (steps_between whole end (step_lines end more)) ≡ step_ranges entries from' steps = ap (λ n. map (part_of counts) (steps_between whole end (step_lines n more))) (sym size) ∙ marks steps behind step.view end from' done' so_far' d' whole' counts' views.1 in
-      ap (λ es. map (part_of counts) (steps_between whole before es)) (more-lines table entries view stands step steps (length done))
-      ∙ one_range (sum (take (before + 1 - 1) counts)) from (sum (take end counts)) from' (view_behind whole end) step.view (map (part_of counts) (steps_between whole end (step_lines end more))) (step_ranges entries from' steps) first d'.begins seen rest
+      let rest : map (step_part counts) (steps_between whole end (step_lines end more)) ≡ step_ranges entries from' steps = ap (λ n. map (step_part counts) (steps_between whole end (step_lines n more))) (sym size) ∙ marks steps behind step.view end from' done' so_far' d' whole' counts' views.1 in
+      ap (λ es. map (step_part counts) (steps_between whole before es)) (more-lines table entries view stands step steps (length done))
+      ∙ one_range (sum (take (before + 1 - 1) counts)) from (sum (take end counts)) from' (view_behind whole end) step.view (map (step_part counts) (steps_between whole end (step_lines end more))) (step_ranges entries from' steps) first d'.begins seen rest
 
 ranges-flat : (entries : List Entry) (from : ℕ) (steps : List StepPart) → Cover from (length entries) steps → step_ranges entries (length (shapes_of (take from entries))) steps ≡ map (flat_step entries) steps
 ranges-flat entries from [] cover = refl
@@ -286,12 +286,12 @@ ranges-flat entries from (step ∷ steps) cover =
     (ap (λ n. step_ranges entries n steps) end ∙ ranges-flat entries step.end steps cover.2)
 
 -- the steps that are read are the flat ones
-pub parts-again : (table : Counting) (entries : List Entry) (steps : List StepPart) → AreSteps (length entries) steps → parts_of (said table entries steps) (map length ([] ∷ seen_steps table entries true steps)) ≡ map (flat_step entries) steps
-unfolding parts_of steps_of
+pub parts-again : (table : Counting) (entries : List Entry) (steps : List StepPart) → AreSteps (length entries) steps → step_parts (said table entries steps) (map length ([] ∷ seen_steps table entries true steps)) ≡ map (flat_step entries) steps
+unfolding step_parts steps_of
 parts-again table entries [] are = absurd (are.some refl)
 parts-again table entries (step ∷ steps) are =
     let whole = said table entries (step ∷ steps) in
     let counts = map length ([] ∷ seen_steps table entries true (step ∷ steps)) in
-    ap (λ es. map (part_of counts) (steps_between whole 0 es)) (ends-are table entries step steps)
+    ap (λ es. map (step_part counts) (steps_between whole 0 es)) (ends-are table entries step steps)
     ∙ marks table entries whole counts (step ∷ steps) true [] 0 0 (Bfc (Certify Ccw) ∷ []) (0 ∷ []) (record { size = refl; begins = refl; given = refl; seen = refl }) refl refl are.views
     ∙ ranges-flat entries 0 (step ∷ steps) are.cover

@@ -16,7 +16,7 @@ use Rattle.ld_entry.specs.declared.entry.Entry.{Entry}
 use Rattle.ld_steps.specs.declared.step.StepPart.{StepPart}
 use Rattle.ld_steps.specs.declared.step.Turn.{Turn}
 use Rattle.ld_inline.specs.Inside.Shown.{AreShownSteps, IsShownStep, following}
-use Rattle.ld_inline.specs.Text.{Words, entries_in, entries_lines, last_turn, lines_text, rotation_of, same_turn, stands_behind, step_rotation, stepped_words, steps_lines}
+use Rattle.ld_inline.specs.Text.{Words, entries_in, entries_lines, last_turn, lines_text, rotation_to, same_turn, stands_behind, step_rotation, stepped_words, steps_lines}
 
 following-append : (xs ys : List (List ℕ)) → following (xs ++ ys) ≡ following xs ++ following ys
 following-append xs ys = flat_map-append (λ (word : List ℕ). 32 ∷ word) xs ys
@@ -47,7 +47,7 @@ last_at first [] t = refl
 last_at first (next ∷ turns) t = last_at next turns t
 
 -- a view of more than one turn ends in an added one
-pub last_rotation : (view : List Turn) (t : Turn) → 2 ≤ length view → t ≡ get_or view (length view - 1) t → rotation_of view ≡ Add t.angles
+pub last_rotation : (view : List Turn) (t : Turn) → 2 ≤ length view → t ≡ get_or view (length view - 1) t → rotation_to view ≡ Add t.angles
 last_rotation [] t some is = absurd (omega arith)
 last_rotation (first ∷ []) t some is = absurd (omega arith)
 last_rotation (first ∷ next ∷ turns) t some is =

@@ -10,7 +10,7 @@ use Rattle.ld_line.specs.declared.line.RotWord.TheVariants.{Abs, Rel, Add, End}
 use Rattle.ld_steps.specs.Laws.{IsNextView}
 use Rattle.ld_steps.specs.View.{one_more, rotated}
 use Rattle.ld_steps.specs.declared.step.Turn.{Turn}
-use Rattle.ld_inline.specs.Text.{last_turn, rotation_of, same_angles, same_bool, same_turn, step_rotation}
+use Rattle.ld_inline.specs.Text.{last_turn, rotation_to, same_angles, same_bool, same_turn, step_rotation}
 
 bools_same : (a b : Bool) → same_bool a b ≡ true → a ≡ b
 bools_same true true h = refl
@@ -60,13 +60,13 @@ last_pushed t (next ∷ ts) u = last_pushed next ts u
 abbrev relative : Angles → Turn
 relative angles = record { absolute = false; angles = angles }
 
-added : (xs before : List Turn) (a : Angles) → one_more before (relative a) ≡ xs ++ relative a ∷ [] → rotated (rotation_of (xs ++ relative a ∷ [])) before ≡ xs ++ relative a ∷ []
+added : (xs before : List Turn) (a : Angles) → one_more before (relative a) ≡ xs ++ relative a ∷ [] → rotated (rotation_to (xs ++ relative a ∷ [])) before ≡ xs ++ relative a ∷ []
 added [] before a h = refl
 added (x ∷ []) before a h = h
 added (x ∷ y ∷ ys) before a h =
     ap (λ t. one_more before (relative t.angles)) (last_pushed y ys (relative a)) ∙ h
 
-turned_again : (word : RotWord) (before : List Turn) → rotated (rotation_of (rotated word before)) before ≡ rotated word before
+turned_again : (word : RotWord) (before : List Turn) → rotated (rotation_to (rotated word before)) before ≡ rotated word before
 turned_again (Abs a) before = refl
 turned_again (Rel a) before = refl
 turned_again End before = refl
@@ -77,15 +77,15 @@ abbrev pub rotated_by : Option RotWord → List Turn → List Turn
 rotated_by None before = before
 rotated_by (Some word) before = rotated word before
 
-changed_again : (before view : List Turn) → pointwise same_turn view before ≡ false → IsNextView before view → rotated (rotation_of view) before ≡ view
+changed_again : (before view : List Turn) → pointwise same_turn view before ≡ false → IsNextView before view → rotated (rotation_to view) before ≡ view
 changed_again before view differ next =
     ⊎_elim
     (λ same. absurd (both_ways (pointwise same_turn view before) differ (subst (λ v. pointwise same_turn v before ≡ true) (sym same) (views_refl before))))
-    (λ changed. subst (λ v. rotated (rotation_of v) before ≡ v) (sym changed.1) (turned_again changed.0 before))
+    (λ changed. subst (λ v. rotated (rotation_to v) before ≡ v) (sym changed.1) (turned_again changed.0 before))
     next
 
 pub view_again : (before view : List Turn) → IsNextView before view → rotated_by (step_rotation before view) before ≡ view
 view_again before view next =
-    cond_both (pointwise same_turn view before) None (Some (rotation_of view)) (λ o. rotated_by o before ≡ view)
+    cond_both (pointwise same_turn view before) None (Some (rotation_to view)) (λ o. rotated_by o before ≡ view)
     (λ same. sym (views_same view before same))
     (λ differ. changed_again before view differ next)

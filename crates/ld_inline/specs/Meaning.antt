@@ -14,13 +14,13 @@ use Rattle.ld_entry.specs.Lawful.{IsLawfulEntry}
 use Rattle.ld_entry.specs.NumberedTexts.{known_texts, NumberedTexts}
 use Rattle.ld_entry.specs.Outcomes.{all_by_line, context_of}
 use Rattle.ld_entry.specs.declared.entry.Entry.{Entry}
-use Rattle.ld_steps.specs.Parts.{parts_of}
+use Rattle.ld_steps.specs.Parts.{step_parts}
 use Rattle.ld_steps.specs.declared.step.StepPart.{StepPart}
 use Rattle.ld_inline.specs.Flat.{flat, Flat, shape_of, shapes_of}
 
 -- the steps of the answer to a query of a root in a colour
 unfoldable pub steps_of_answer : NumberedTexts → ℕ → TextId → Colour → List StepPart
-steps_of_answer texts depth root colour = parts_of (texts.lines root) (map length (all_by_line (left_below depth []) (context_of texts [] root (colour_above colour))))
+steps_of_answer texts depth root colour = step_parts (texts.lines root) (map length (all_by_line (left_below depth []) (context_of texts [] root (colour_above colour))))
 
 -- these lines as the one text there is, under a name in the model's folder
 abbrev pub only_text : List ℕ → List (List ℕ) → NumberedTexts

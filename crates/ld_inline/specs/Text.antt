@@ -37,12 +37,12 @@ Words = List (List ℕ)
 -- ---- Drawn lines.
 
 -- 16, 24, a code, or 0x2RRGGBB; an edge colour of a code by its red, green and blue
-abbrev pub colour_text : Counting → Colour → List ℕ
-colour_text table Main = codes "16"
-colour_text table Edge = codes "24"
-colour_text table (Code code) = decimal code
-colour_text table (EdgeOf code) = direct_text (unwrap_or (rgb_in table (EdgeOf code)) 0)
-colour_text table (Direct value) = direct_text value
+abbrev pub written_colour : Counting → Colour → List ℕ
+written_colour table Main = codes "16"
+written_colour table Edge = codes "24"
+written_colour table (Code code) = decimal code
+written_colour table (EdgeOf code) = direct_text (unwrap_or (rgb_in table (EdgeOf code)) 0)
+written_colour table (Direct value) = direct_text value
 
 -- the used points in the order in which they are written: those of a clockwise face are turned round
 abbrev pub written_points : Kind → Winding → List Point → List Point
@@ -51,7 +51,7 @@ written_points Quad Cw points = reverse (take 4 points)
 written_points kind winding points = take (points_in kind) points
 
 abbrev pub drawn_words : Counting → Kind → Winding → Colour → List Point → Words
-drawn_words table kind winding colour points = kind_word kind ∷ colour_text table colour ∷ map dec_text (flat_map coordinates (written_points kind winding points))
+drawn_words table kind winding colour points = kind_word kind ∷ written_colour table colour ∷ map dec_text (flat_map coordinates (written_points kind winding points))
 
 -- a statement where what is wanted does not stand
 abbrev pub clip_lines : Bool → Bool → List Words
@@ -91,14 +91,14 @@ last_turn turn [] = turn
 last_turn turn (next ∷ turns) = last_turn next turns
 
 -- the rotation step that is written of a view which changed
-abbrev pub rotation_of : List Turn → RotWord
-rotation_of [] = End
-rotation_of (turn ∷ []) = if turn.absolute then Abs turn.angles else Rel turn.angles
-rotation_of (turn ∷ next ∷ turns) = Add (last_turn next turns).angles
+abbrev pub rotation_to : List Turn → RotWord
+rotation_to [] = End
+rotation_to (turn ∷ []) = if turn.absolute then Abs turn.angles else Rel turn.angles
+rotation_to (turn ∷ next ∷ turns) = Add (last_turn next turns).angles
 
 -- the step line between two views; None for a line without a rotation
 abbrev pub step_rotation : List Turn → List Turn → Option RotWord
-step_rotation before view = if pointwise same_turn view before then None else Some (rotation_of view)
+step_rotation before view = if pointwise same_turn view before then None else Some (rotation_to view)
 
 abbrev pub stepped_words : Option RotWord → Words
 stepped_words None = step_words

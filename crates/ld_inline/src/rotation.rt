@@ -3,7 +3,7 @@ ghost use Rattle.std.specs.Prelude.{◌≡◌, ◌++◌, ◌∷◌, [], OnOk};
 ghost use Rattle.std.specs.Cmp.Lexicographic.{pointwise};
 ghost use Rattle.ld_line.specs.Printing.{IsTurn, AreAngles, angle_words, turn_words};
 ghost use Rattle.ld_steps.specs.declared.step.Turn.{Turn};
-ghost use Rattle.ld_inline.specs.Text.{lines_text, rotation_of, same_turn, step_rotation, stepped_words};
+ghost use Rattle.ld_inline.specs.Text.{lines_text, rotation_to, same_turn, step_rotation, stepped_words};
 ghost use Rattle.ld_inline.specs.Inside.Shown.{IsShownStep, following};
 
 use crate::ranges::angles_range;
@@ -44,8 +44,8 @@ fn turn_law()
 
 #[tactic(auto, using(crate::proofs::Texts::last_rotation))]
 fn append_rotation(view: &[Turn], into: &mut Vec<u8>) -> Result<(), AllocError>
-    ensures text { OnOk result (into.new.items ≡ into.old.items ++ following (turn_words (rotation_of view.now))) }
-    ensures turn { IsTurn (rotation_of view.now) }
+    ensures text { OnOk result (into.new.items ≡ into.old.items ++ following (turn_words (rotation_to view.now))) }
+    ensures turn { IsTurn (rotation_to view.now) }
 {
     match view {
         [] => append_word(b"END", into),
@@ -55,8 +55,8 @@ fn append_rotation(view: &[Turn], into: &mut Vec<u8>) -> Result<(), AllocError>
 }
 
 fn append_only(turn: Turn, into: &mut Vec<u8>) -> Result<(), AllocError>
-    ensures text { OnOk result (into.new.items ≡ into.old.items ++ following (turn_words (rotation_of (turn ∷ [])))) }
-    ensures turn { IsTurn (rotation_of (turn ∷ [])) }
+    ensures text { OnOk result (into.new.items ≡ into.old.items ++ following (turn_words (rotation_to (turn ∷ [])))) }
+    ensures turn { IsTurn (rotation_to (turn ∷ [])) }
 {
     if turn.absolute {
         append_angles(turn.angles, b"ABS", into)

@@ -6,7 +6,7 @@ ghost use Rattle.ld_num.specs.Text.{dec_text};
 ghost use Rattle.ld_line.specs.Kind.{points_in};
 ghost use Rattle.ld_line.specs.Printing.{coordinates, direct_text, kind_word, six_hex};
 ghost use Rattle.ld_colour.specs.Table.{counting};
-ghost use Rattle.ld_inline.specs.Text.{colour_text, drawn_words, lines_text, written_points};
+ghost use Rattle.ld_inline.specs.Text.{written_colour, drawn_words, lines_text, written_points};
 ghost use Rattle.ld_inline.specs.Inside.Shown.{following};
 
 use itoa::Buffer;
@@ -90,7 +90,7 @@ fn append_direct(value: u32, into: &mut Vec<u8>) -> Result<(), AllocError>
 
 // A colour behind a space; an edge colour by its red, green and blue.
 fn append_colour(colour: Colour, table: &Table, into: &mut Vec<u8>) -> Result<(), AllocError>
-    ensures { OnOk result (into.new.items ≡ into.old.items ++ 32 ∷ colour_text (counting table.now) colour) }
+    ensures { OnOk result (into.new.items ≡ into.old.items ++ 32 ∷ written_colour (counting table.now) colour) }
 {
     match colour {
         Colour::Main => into.extend_from_slice(b" 16"),

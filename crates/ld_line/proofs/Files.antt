@@ -3,7 +3,7 @@ use Rattle.std.proofs.Common.{◌≡◌, ◌≢◌, ◌<◌, ◌==◌, ℕ, ℤ,
 use Rattle.std.specs.List.{list_any}
 use Rattle.ld_num.specs.declared.dec.NumError.{NumError}
 use Rattle.ld_num.specs.declared.dec.NumError.TheVariants.{OutOfRange}
-use Rattle.ld_names.specs.Normal.{checked, is_blank, is_control, is_relative, lower, normal_of, onto_trimmed, trim_end, trim_start}
+use Rattle.ld_names.specs.Normal.{checked_name, is_blank, is_control, is_relative, lower, normal_of, onto_trimmed, trim_end, trim_start}
 use Rattle.ld_names.specs.declared.name.NameError.TheVariants.{TooLong, NotRelative, Control}
 use Rattle.ld_line.specs.declared.line.Line.TheVariants.{Malformed, OutOfRange as Beyond}
 use Rattle.ld_line.specs.Colour.{colour_word}
@@ -16,7 +16,7 @@ pub no_file : (file : List ℕ) → length (trim_start file) ≡ 0 → (colour :
 unfolding normal_of
 no_file file ends colour =
     let start = empty (trim_start file) ends in
-    sym (ap (λ bytes. referred (Some colour) (Err OutOfRange) (file_named (checked (map lower (trim_end bytes))))) start)
+    sym (ap (λ bytes. referred (Some colour) (Err OutOfRange) (file_named (checked_name (map lower (trim_end bytes))))) start)
   where
     empty : (xs : List ℕ) → length xs ≡ 0 → xs ≡ []
     empty [] none = refl
@@ -29,7 +29,7 @@ named_some false false true name e = cc
 named_some false false false name e = cc
 
 -- the name of bytes of which some are left
-checked_some : (name : List ℕ) → 0 < length name → file_named (checked name) ≢ None
+checked_some : (name : List ℕ) → 0 < length name → file_named (checked_name name) ≢ None
 checked_some [] some = absurd (omega arith)
 checked_some (x ∷ xs) some =
     let kept : (length (x ∷ xs) == 0) ≡ false = grind (arith, tests) in
@@ -54,7 +54,7 @@ beyond colour (Some name) some = refl
 pub some_file : (file : List ℕ) → 0 < length (trim_start file) → (colour : ℕ) → Beyond ≡ referred (Some colour) (Err OutOfRange) (file_named (normal_of file))
 unfolding normal_of
 some_file file some colour =
-    beyond colour (file_named (checked (map lower (trim_end (trim_start file))))) (checked_some (map lower (trim_end (trim_start file))) (trimmed_some file some))
+    beyond colour (file_named (checked_name (map lower (trim_end (trim_start file))))) (checked_some (map lower (trim_end (trim_start file))) (trimmed_some file some))
 
 -- a reference by a colour word, its numbers and what stands behind them
 pub reference_of-read : (all more : List (List ℕ)) (field rest : List ℕ) (colour : ℕ) (numbers : Result (List ℤ) NumError) (file : List ℕ) → all ≡ field ∷ more → Some colour ≡ colour_word field → numbers_of 12 more ≡ numbers → file ≡ after_fields 13 rest → reference_of all rest ≡ referred (Some colour) numbers (file_named (normal_of file))

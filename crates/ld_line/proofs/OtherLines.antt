@@ -13,7 +13,7 @@ use Rattle.ld_line.specs.declared.line.RotWord.TheVariants.{Abs, Rel, Add, End}
 use Rattle.ld_line.specs.Colour.{colour_word}
 use Rattle.ld_line.specs.Field.{after_fields, fields}
 use Rattle.ld_line.specs.Kind.{points_in}
-use Rattle.ld_line.specs.Meta.{bfc_words, meta_of, rotated, stated, statement_in, turned, words_eq}
+use Rattle.ld_line.specs.Meta.{bfc_words, meta_of, rotation_line, stated, statement_in, rotation_by, words_eq}
 use Rattle.ld_line.specs.Numbers.{angles_of, numbers_of}
 use Rattle.ld_line.specs.Part.{header_of}
 use Rattle.ld_line.specs.Reading.{draw_of, drawn, file_named, line_in, line_of, reference_of, referred}
@@ -48,7 +48,7 @@ no_stated : (word : Option BfcWord) → header_of (stated word) ≡ None
 no_stated (Some word) = refl
 no_stated None = refl
 
-no_turned : (angles : Angles) (fields : List (List ℕ)) → header_of (turned angles fields) ≡ None
+no_turned : (angles : Angles) (fields : List (List ℕ)) → header_of (rotation_by angles fields) ≡ None
 no_turned angles [] = refl
 no_turned angles (word ∷ []) =
     either (bytes_eq word (codes "ABS")) (Rot (Abs angles)) (cond (bytes_eq word (codes "REL")) (Rot (Rel angles)) (cond (bytes_eq word (codes "ADD")) (Rot (Add angles)) Comment)) refl
@@ -56,7 +56,7 @@ no_turned angles (word ∷ []) =
     (either (bytes_eq word (codes "ADD")) (Rot (Add angles)) Comment refl refl))
 no_turned angles (word ∷ more ∷ fields) = refl
 
-no_rotated : (numbers : Result (List ℤ) NumError) (fields : List (List ℕ)) → header_of (rotated numbers fields) ≡ None
+no_rotated : (numbers : Result (List ℤ) NumError) (fields : List (List ℕ)) → header_of (rotation_line numbers fields) ≡ None
 no_rotated (Err e) fields = refl
 no_rotated (Ok numbers) fields = no_turned (angles_of numbers) fields
 
@@ -65,14 +65,14 @@ pub no_meta : (command : List ℕ) (fields : List (List ℕ)) → bytes_eq comma
 no_meta command fields other =
     let statement = stated (statement_in bfc_words fields) in
     let step = cond (length fields == 0) Step Comment in
-    let turns = cond (words_eq fields (codes "END" ∷ [])) (Rot End) (rotated (numbers_of 3 fields) (drop 3 fields)) in
+    let turns = cond (words_eq fields (codes "END" ∷ [])) (Rot End) (rotation_line (numbers_of 3 fields) (drop 3 fields)) in
     let turning = cond (bytes_eq command (codes "ROTSTEP")) turns Comment in
     let stepping = cond (bytes_eq command (codes "STEP")) step turning in
     rw other
     (either (bytes_eq command (codes "BFC")) statement stepping (no_stated (statement_in bfc_words fields))
     (either (bytes_eq command (codes "STEP")) step turning (either (length fields == 0) Step Comment refl refl)
     (either (bytes_eq command (codes "ROTSTEP")) turns Comment
-    (either (words_eq fields (codes "END" ∷ [])) (Rot End) (rotated (numbers_of 3 fields) (drop 3 fields)) refl (no_rotated (numbers_of 3 fields) (drop 3 fields)))
+    (either (words_eq fields (codes "END" ∷ [])) (Rot End) (rotation_line (numbers_of 3 fields) (drop 3 fields)) refl (no_rotated (numbers_of 3 fields) (drop 3 fields)))
     refl)))
 
 -- a line of another type

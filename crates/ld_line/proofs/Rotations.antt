@@ -11,7 +11,7 @@ use Rattle.ld_line.specs.declared.line.Line.TheVariants.{Bfc, Rot, Step}
 use Rattle.ld_line.specs.declared.line.RotWord.{RotWord}
 use Rattle.ld_line.specs.declared.line.RotWord.TheVariants.{Abs, Rel, Add, End}
 use Rattle.ld_line.specs.Field.{after_fields}
-use Rattle.ld_line.specs.Meta.{meta_of, rotated, rotation_of, turned}
+use Rattle.ld_line.specs.Meta.{meta_of, rotation_line, rotation_of, rotation_by}
 use Rattle.ld_line.specs.Numbers.{numbers_of}
 use Rattle.ld_line.specs.Reading.{line_in, line_of}
 use Rattle.ld_line.specs.Word.{is_word, spaced}
@@ -47,10 +47,10 @@ same_at : {A : Type 0} (b : Bool) (x : A) (y : A) → cond (cond b false false) 
 same_at true x y = refl
 same_at false x y = refl
 
-turn_again : PrintsNumerals → (a : Angles) (word : List ℕ) → AreAngles a → rotation_of (angle_words a ++ word ∷ []) ≡ turned a (word ∷ [])
+turn_again : PrintsNumerals → (a : Angles) (word : List ℕ) → AreAngles a → rotation_of (angle_words a ++ word ∷ []) ≡ rotation_by a (word ∷ [])
 turn_again law a word h =
-    same_at (bytes_eq (dec_text a.x) (codes "END")) (Rot End) (rotated (numbers_of 3 (angle_words a ++ word ∷ [])) (word ∷ []))
-    ∙ ap (λ r. rotated r (word ∷ [])) (front (dec_text a.x) (dec_text a.y) (dec_text a.z) word ∙ numbers_again law (angle_values a) (angles_are_decs a h))
+    same_at (bytes_eq (dec_text a.x) (codes "END")) (Rot End) (rotation_line (numbers_of 3 (angle_words a ++ word ∷ [])) (word ∷ []))
+    ∙ ap (λ r. rotation_line r (word ∷ [])) (front (dec_text a.x) (dec_text a.y) (dec_text a.z) word ∙ numbers_again law (angle_values a) (angles_are_decs a h))
   where
     front : (x y z w : List ℕ) → numbers_of 3 (x ∷ y ∷ z ∷ w ∷ []) ≡ numbers_of 3 (x ∷ y ∷ z ∷ [])
     front x y z w = refl

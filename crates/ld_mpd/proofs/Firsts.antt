@@ -2,7 +2,7 @@
 use Rattle.std.proofs.Common.{◌≡◌, ℕ, true, false, cond, List, [], ◌∷◌, ◌++◌, refl, ap, sym, ◌∙◌, append_assoc, append-nil}
 use Rattle.ld_mpd.specs.declared.block.Block.{Block}
 use Rattle.ld_line.specs.Cut.{lines_of}
-use Rattle.ld_mpd.specs.Blocks.{begun, behind_file, blocks_in, blocks_of, firsts, is_later, opening}
+use Rattle.ld_mpd.specs.Blocks.{begun_blocks, behind_file, blocks_in, blocks_of, firsts, is_later, opening}
 
 pub firsts-append : (earlier xs ys : List Block) → firsts earlier (xs ++ ys) ≡ firsts earlier xs ++ firsts (earlier ++ firsts earlier xs) ys
 firsts-append earlier [] ys = ap (λ bs. firsts bs ys) (sym (append-nil earlier))
@@ -29,8 +29,8 @@ pub firsts-old : (old : List Block) (x : Block) → is_later old x ≡ true → 
 firsts-old old x later = rw later (sym (append-nil old))
 
 -- the block before the first line, and those that begin at what is left of the lines
-pub firsts-start : (own bytes : List ℕ) (lines rest : List (List ℕ)) (old new : List Block) → old ≡ [] → lines ≡ lines_of bytes → new ≡ old ++ firsts old (opening own lines (behind_file lines)) → begun own rest ≡ begun own lines → new ++ firsts new (begun own rest) ≡ blocks_of own bytes
+pub firsts-start : (own bytes : List ℕ) (lines rest : List (List ℕ)) (old new : List Block) → old ≡ [] → lines ≡ lines_of bytes → new ≡ old ++ firsts old (opening own lines (behind_file lines)) → begun_blocks own rest ≡ begun_blocks own lines → new ++ firsts new (begun_blocks own rest) ≡ blocks_of own bytes
 unfolding blocks_of
 firsts-start own bytes lines rest old new none are is left =
     let next = opening own lines (behind_file lines) in
-    ap (λ bs. new ++ firsts new bs) left ∙ firsts-step [] new next (begun own lines) (blocks_of own bytes) (is ∙ ap (λ bs. bs ++ firsts bs next) none) (ap (blocks_in own) are)
+    ap (λ bs. new ++ firsts new bs) left ∙ firsts-step [] new next (begun_blocks own lines) (blocks_of own bytes) (is ∙ ap (λ bs. bs ++ firsts bs next) none) (ap (blocks_in own) are)

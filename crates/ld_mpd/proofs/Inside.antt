@@ -9,7 +9,7 @@ use Rattle.ld_line.specs.Block.{block_line_of}
 use Rattle.ld_line.specs.Cut.{lines_of}
 use Rattle.ld_line.specs.Word.{LinesOfTexts, is_one_line}
 use Rattle.ld_mpd.specs.declared.block.Block.{Block}
-use Rattle.ld_mpd.specs.Blocks.{are_inside, begun, behind_file, block_at, blocks_in, blocks_of, firsts, inside, is_inside, is_later, is_other, opening, text_blocks, texts_in}
+use Rattle.ld_mpd.specs.Blocks.{are_inside, begun_blocks, behind_file, block_at, blocks_in, blocks_of, firsts, inside, is_inside, is_later, is_other, opening, text_blocks, texts_in}
 use Rattle.ld_mpd.specs.Laws.{LinesStandInside, TextLinesStandInside}
 
 abbrev pub stands_inside : Block → Bool
@@ -23,11 +23,11 @@ inside_are (line ∷ lines) h = by_line (inside_are lines (and_parts _ _ h).1) (
     by_line rest true is = and_from _ _ (and_from _ _ (and_parts (is_one_line line) (list_all is_one_line lines) h).0 is) rest
     by_line rest false is = refl
 
-begun_are : (own : List ℕ) (lines : List (List ℕ)) → list_all is_one_line lines ≡ true → list_all stands_inside (begun own lines) ≡ true
+begun_are : (own : List ℕ) (lines : List (List ℕ)) → list_all is_one_line lines ≡ true → list_all stands_inside (begun_blocks own lines) ≡ true
 begun_are own [] h = refl
 begun_are own (line ∷ lines) h = by_kind (inside_are lines (and_parts _ _ h).1) (begun_are own lines (and_parts _ _ h).1) (block_line_of line)
   where
-    by_kind : are_inside (inside lines) ≡ true → list_all stands_inside (begun own lines) ≡ true → (kind : BlockLine) → list_all stands_inside (block_at own line lines kind ++ begun own lines) ≡ true
+    by_kind : are_inside (inside lines) ≡ true → list_all stands_inside (begun_blocks own lines) ≡ true → (kind : BlockLine) → list_all stands_inside (block_at own line lines kind ++ begun_blocks own lines) ≡ true
     by_kind here rest File = and_from _ _ here rest
     by_kind here rest Data = and_from _ _ here rest
     by_kind here rest NoFile = rest
@@ -48,7 +48,7 @@ firsts_all test earlier (b ∷ blocks) h =
 
 pub blocks_are : (own : List ℕ) (lines : List (List ℕ)) → list_all is_one_line lines ≡ true → list_all stands_inside (blocks_in own lines) ≡ true
 blocks_are own lines h =
-    firsts_all stands_inside [] (opening own lines (behind_file lines) ++ begun own lines) (list_all-append stands_inside (opening own lines (behind_file lines)) (begun own lines) ∙ and_from _ _ (opening_are own lines (behind_file lines) h) (begun_are own lines h))
+    firsts_all stands_inside [] (opening own lines (behind_file lines) ++ begun_blocks own lines) (list_all-append stands_inside (opening own lines (behind_file lines)) (begun_blocks own lines) ∙ and_from _ _ (opening_are own lines (behind_file lines) h) (begun_are own lines h))
 
 texts_are : (blocks : List Block) → list_all stands_inside blocks ≡ true → list_all (λ text. are_inside text.1) (texts_in blocks) ≡ true
 texts_are [] h = refl
@@ -67,10 +67,10 @@ unfolding text_blocks
 text_lines_stand_inside law own bytes = texts_are (blocks_of own bytes) (lines_stand_inside law own bytes)
 
 -- a line that begins or ends no block is passed over
-pub begun_inside : (own line : List ℕ) (lines : List (List ℕ)) → is_inside line ≡ true → begun own (line ∷ lines) ≡ begun own lines
+pub begun_inside : (own line : List ℕ) (lines : List (List ℕ)) → is_inside line ≡ true → begun_blocks own (line ∷ lines) ≡ begun_blocks own lines
 begun_inside own line lines h = by_kind (block_line_of line) h
   where
-    by_kind : (kind : BlockLine) → is_other kind ≡ true → block_at own line lines kind ++ begun own lines ≡ begun own lines
+    by_kind : (kind : BlockLine) → is_other kind ≡ true → block_at own line lines kind ++ begun_blocks own lines ≡ begun_blocks own lines
     by_kind Other here = refl
     by_kind File here = absurd (false≢true here)
     by_kind NoFile here = absurd (false≢true here)

@@ -12,7 +12,7 @@ use Rattle.ld_line.specs.Cut.{lines_of, without_mark}
 use Rattle.ld_line.specs.Field.{after_field, after_fields, fields}
 use Rattle.ld_line.specs.Word.{LinesOfTexts, ended, is_one_line}
 use Rattle.ld_mpd.specs.declared.block.Block.{Block}
-use Rattle.ld_mpd.specs.Blocks.{are_inside, begun, behind_file, block, block_at, block_name, blocks_in, blocks_of, firsts, has_text, inside, is_file, is_inside, is_later, is_other, name_or, opening}
+use Rattle.ld_mpd.specs.Blocks.{are_inside, begun_blocks, behind_file, block, block_at, block_name, blocks_in, blocks_of, firsts, has_text, inside, is_file, is_inside, is_later, is_other, name_or, opening}
 use Rattle.ld_mpd.specs.Joining.{block_lines, first_bad, head_word, is_bad, join_by, join_of, joined}
 use Rattle.ld_mpd.specs.Laws.{AreNamed, SplitOfJoined}
 use Rattle.ld_mpd.proofs.Inside.{begun_inside}
@@ -106,7 +106,7 @@ inside_lines (line ∷ lines) rest h =
     let here : is_inside line ≡ true = (and_parts _ _ (and_parts _ _ h).0).1 in
     rw here (ap (λ ls. line ∷ ls) (inside_lines lines rest (and_parts _ _ h).1))
 
-begun_lines : (own : List ℕ) (lines rest : List (List ℕ)) → are_inside lines ≡ true → begun own (lines ++ rest) ≡ begun own rest
+begun_lines : (own : List ℕ) (lines rest : List (List ℕ)) → are_inside lines ≡ true → begun_blocks own (lines ++ rest) ≡ begun_blocks own rest
 begun_lines own [] rest h = refl
 begun_lines own (line ∷ lines) rest h =
     begun_inside own line (lines ++ rest) (and_parts _ _ (and_parts _ _ h).0).1 ∙ begun_lines own lines rest (and_parts _ _ h).1
@@ -123,17 +123,17 @@ block_at_head : (own : List ℕ) (is_data : Bool) (line : List ℕ) (lines : Lis
 block_at_head own true line lines = refl
 block_at_head own false line lines = refl
 
-begun_blocks : (own : List ℕ) (earlier blocks : List Block) → AreGood earlier blocks → AreNamed blocks → begun own (flat_map block_lines blocks) ≡ blocks
+begun_blocks : (own : List ℕ) (earlier blocks : List Block) → AreGood earlier blocks → AreNamed blocks → begun_blocks own (flat_map block_lines blocks) ≡ blocks
 begun_blocks own earlier [] h named = refl
 begun_blocks own earlier (b ∷ blocks) h named =
     let head = head_word b.is_data ++ b.name in
     let rest = flat_map block_lines blocks in
     let at : block_at own head (b.lines ++ rest) (block_line_of head) ≡ block b.is_data (block_name own head) (inside (b.lines ++ rest)) ∷ [] = ap (block_at own head (b.lines ++ rest)) (head_is b.is_data b.name) ∙ block_at_head own b.is_data head (b.lines ++ rest) in
     let lines : inside (b.lines ++ rest) ≡ b.lines = inside_lines b.lines rest h.1 ∙ ap (λ ls. b.lines ++ ls) (inside_none blocks) ∙ append-nil b.lines in
-    let more : begun own (b.lines ++ rest) ≡ blocks = begun_lines own b.lines rest h.1 ∙ begun_blocks own (earlier ++ b ∷ []) blocks h.2 named.1 in
-    ap (λ bs. bs ++ begun own (b.lines ++ rest)) at
-    ∙ ap (λ name. block b.is_data name (inside (b.lines ++ rest)) ∷ begun own (b.lines ++ rest)) (head_name own b.is_data b.name named.0)
-    ∙ ap (λ ls. block b.is_data b.name ls ∷ begun own (b.lines ++ rest)) lines
+    let more : begun_blocks own (b.lines ++ rest) ≡ blocks = begun_lines own b.lines rest h.1 ∙ begun_blocks own (earlier ++ b ∷ []) blocks h.2 named.1 in
+    ap (λ bs. bs ++ begun_blocks own (b.lines ++ rest)) at
+    ∙ ap (λ name. block b.is_data name (inside (b.lines ++ rest)) ∷ begun_blocks own (b.lines ++ rest)) (head_name own b.is_data b.name named.0)
+    ∙ ap (λ ls. block b.is_data b.name ls ∷ begun_blocks own (b.lines ++ rest)) lines
     ∙ ap (λ bs. b ∷ bs) more
 
 -- ---- a text block stands
@@ -176,7 +176,7 @@ cut_again : (own : List ℕ) (blocks : List Block) → AreGood [] blocks → Are
 cut_again own blocks h named text =
     let lines = flat_map block_lines blocks in
     let found = file_stands [] blocks h text in
-    ap (λ behind. firsts [] (opening own lines behind ++ begun own lines)) found.1 ∙ ap (firsts []) (begun_blocks own [] blocks h named) ∙ firsts_good [] blocks h
+    ap (λ behind. firsts [] (opening own lines behind ++ begun_blocks own lines)) found.1 ∙ ap (firsts []) (begun_blocks own [] blocks h named) ∙ firsts_good [] blocks h
 
 pub split_of_joined : AreNames → LinesOfTexts → SplitOfJoined
 unfolding join_of blocks_of

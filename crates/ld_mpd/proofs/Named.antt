@@ -12,7 +12,7 @@ use Rattle.ld_line.specs.Block.{block_line_of}
 use Rattle.ld_line.specs.Cut.{lines_of}
 use Rattle.ld_line.specs.Field.{after_fields}
 use Rattle.ld_mpd.specs.declared.block.Block.{Block}
-use Rattle.ld_mpd.specs.Blocks.{begun, behind_file, block_at, blocks_of, firsts, is_later, is_named, name_or, opening, text_blocks, texts_in}
+use Rattle.ld_mpd.specs.Blocks.{begun_blocks, behind_file, block_at, blocks_of, firsts, is_later, is_named, name_or, opening, text_blocks, texts_in}
 use Rattle.ld_mpd.specs.Laws.{AreNamed, BlocksAreNamed, TextNamesDiffer}
 
 abbrev IsNormal : List ℕ → Type 0
@@ -25,11 +25,11 @@ name_is law own text is = by_result (normal_of text) refl
     by_result (Ok name) here = law.again text name here
     by_result (Err e) here = is
 
-named_begun : (law : AreNames) (own : List ℕ) (lines : List (List ℕ)) → IsNormal own → AreNamed (begun own lines)
+named_begun : (law : AreNames) (own : List ℕ) (lines : List (List ℕ)) → IsNormal own → AreNamed (begun_blocks own lines)
 named_begun law own [] is = tt
 named_begun law own (line ∷ lines) is = by_kind (named_begun law own lines is) (block_line_of line)
   where
-    by_kind : AreNamed (begun own lines) → (kind : BlockLine) → AreNamed (block_at own line lines kind ++ begun own lines)
+    by_kind : AreNamed (begun_blocks own lines) → (kind : BlockLine) → AreNamed (block_at own line lines kind ++ begun_blocks own lines)
     by_kind rest File = (name_is law own (after_fields 2 line) is, rest)
     by_kind rest Data = (name_is law own (after_fields 2 line) is, rest)
     by_kind rest NoFile = rest
@@ -49,7 +49,7 @@ pub blocks_are_named : AreNames → BlocksAreNamed
 unfolding blocks_of
 blocks_are_named law own bytes is =
     let lines = lines_of bytes in
-    named_firsts [] (opening own lines (behind_file lines) ++ begun own lines) (named_opening own lines (behind_file lines) (begun own lines) is (named_begun law own lines is))
+    named_firsts [] (opening own lines (behind_file lines) ++ begun_blocks own lines) (named_opening own lines (behind_file lines) (begun_blocks own lines) is (named_begun law own lines is))
 
 -- ---- text blocks have different names
 
@@ -106,4 +106,4 @@ names_differ earlier (b ∷ blocks) = by_later (names_differ earlier blocks) (na
 
 pub text_names_differ : TextNamesDiffer
 unfolding text_blocks blocks_of
-text_names_differ own bytes = names_differ [] (opening own (lines_of bytes) (behind_file (lines_of bytes)) ++ begun own (lines_of bytes))
+text_names_differ own bytes = names_differ [] (opening own (lines_of bytes) (behind_file (lines_of bytes)) ++ begun_blocks own (lines_of bytes))

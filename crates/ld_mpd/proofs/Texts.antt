@@ -8,7 +8,7 @@ use Rattle.ld_line.specs.declared.line.BlockLine.TheVariants.{File, NoFile, Data
 use Rattle.ld_line.specs.Block.{block_line_of}
 use Rattle.ld_line.specs.Cut.{lines_of}
 use Rattle.ld_mpd.specs.declared.block.Block.{Block}
-use Rattle.ld_mpd.specs.Blocks.{begun, behind_file, block, block_at, block_name, blocks_in, blocks_of, first_lines, firsts, has_text, inside, is_file, is_later, is_named, opening, text_blocks, text_of, texts_in}
+use Rattle.ld_mpd.specs.Blocks.{begun_blocks, behind_file, block, block_at, block_name, blocks_in, blocks_of, first_lines, firsts, has_text, inside, is_file, is_later, is_named, opening, text_blocks, text_of, texts_in}
 use Rattle.ld_mpd.specs.Laws.{TextIgnoresName, TextStands, TextsAmongBlocks}
 
 -- the first text has these lines
@@ -24,12 +24,12 @@ same_some x y e = cc
 nil_cons : {A : Type 0} (x : A) (xs : List A) → [] ≡ x ∷ xs → ⊥
 nil_cons x xs e = cc
 
-texts_begun : (own : List ℕ) (lines behind : List (List ℕ)) → behind_file lines ≡ Some behind → HasFirst (texts_in (begun own lines)) (inside behind)
+texts_begun : (own : List ℕ) (lines behind : List (List ℕ)) → behind_file lines ≡ Some behind → HasFirst (texts_in (begun_blocks own lines)) (inside behind)
 texts_begun own [] behind is = absurd (some_none behind is)
 texts_begun own (line ∷ lines) behind is = by_kind (texts_begun own lines behind) (block_line_of line) is
   where
-    by_kind : (behind_file lines ≡ Some behind → HasFirst (texts_in (begun own lines)) (inside behind)) → (kind : BlockLine) → cond (is_file kind) (Some lines) (behind_file lines) ≡ Some behind → HasFirst (texts_in (block_at own line lines kind ++ begun own lines)) (inside behind)
-    by_kind later File here = (block_name own line, texts_in (begun own lines), ap (λ ls. (block_name own line, inside ls) ∷ texts_in (begun own lines)) (same_some lines behind here))
+    by_kind : (behind_file lines ≡ Some behind → HasFirst (texts_in (begun_blocks own lines)) (inside behind)) → (kind : BlockLine) → cond (is_file kind) (Some lines) (behind_file lines) ≡ Some behind → HasFirst (texts_in (block_at own line lines kind ++ begun_blocks own lines)) (inside behind)
+    by_kind later File here = (block_name own line, texts_in (begun_blocks own lines), ap (λ ls. (block_name own line, inside ls) ∷ texts_in (begun_blocks own lines)) (same_some lines behind here))
     by_kind later NoFile here = later here
     by_kind later Data here = later here
     by_kind later Other here = later here
@@ -68,9 +68,9 @@ main_lines lines = inside (unwrap_or (behind_file lines) lines)
 pub texts_blocks_in : (own : List ℕ) (lines : List (List ℕ)) → HasFirst (texts_in (blocks_in own lines)) (main_lines lines)
 texts_blocks_in own lines = by_file (behind_file lines) refl
   where
-    by_file : (behind : Option (List (List ℕ))) → behind_file lines ≡ behind → HasFirst (texts_in (firsts [] (opening own lines behind ++ begun own lines))) (inside (unwrap_or behind lines))
-    by_file (Some behind) is = texts_firsts [] (begun own lines) (inside behind) refl (texts_begun own lines behind is)
-    by_file None is = texts_firsts [] (block false own (inside lines) ∷ begun own lines) (inside lines) refl (own, texts_in (begun own lines), refl)
+    by_file : (behind : Option (List (List ℕ))) → behind_file lines ≡ behind → HasFirst (texts_in (firsts [] (opening own lines behind ++ begun_blocks own lines))) (inside (unwrap_or behind lines))
+    by_file (Some behind) is = texts_firsts [] (begun_blocks own lines) (inside behind) refl (texts_begun own lines behind is)
+    by_file None is = texts_firsts [] (block false own (inside lines) ∷ begun_blocks own lines) (inside lines) refl (own, texts_in (begun_blocks own lines), refl)
 
 pub text_is : (own bytes : List ℕ) → text_of own bytes ≡ main_lines (lines_of bytes)
 unfolding text_of text_blocks blocks_of

@@ -50,9 +50,9 @@ block_at own line lines NoFile = []
 block_at own line lines Other = []
 
 -- the blocks that begin at the FILE and DATA lines, in order
-abbrev pub begun : List ℕ → List (List ℕ) → List Block
-begun own [] = []
-begun own (line ∷ lines) = block_at own line lines (block_line_of line) ++ begun own lines
+abbrev pub begun_blocks : List ℕ → List (List ℕ) → List Block
+begun_blocks own [] = []
+begun_blocks own (line ∷ lines) = block_at own line lines (block_line_of line) ++ begun_blocks own lines
 
 abbrev pub is_file : BlockLine → Bool
 is_file File = true
@@ -88,7 +88,7 @@ firsts earlier [] = []
 firsts earlier (block ∷ blocks) = if is_later earlier block then firsts earlier blocks else block ∷ firsts (earlier ++ block ∷ []) blocks
 
 abbrev pub blocks_in : List ℕ → List (List ℕ) → List Block
-blocks_in own lines = firsts [] (opening own lines (behind_file lines) ++ begun own lines)
+blocks_in own lines = firsts [] (opening own lines (behind_file lines) ++ begun_blocks own lines)
 
 -- the blocks of a file of this name
 unfoldable pub blocks_of : List ℕ → List ℕ → List Block
@@ -119,7 +119,7 @@ IsText lines bytes = (own : List ℕ) → lines ≡ text_of own bytes
 
 -- the same blocks begin at what is left of the lines
 abbrev pub BeginsSame : List (List ℕ) → List (List ℕ) → Type 0
-BeginsSame rest lines = (own : List ℕ) → begun own rest ≡ begun own lines
+BeginsSame rest lines = (own : List ℕ) → begun_blocks own rest ≡ begun_blocks own lines
 
 abbrev pub has_text : List Block → Bool
 has_text blocks = list_any (λ block. not block.is_data) blocks

@@ -4,7 +4,7 @@ use Rattle.ld_names.specs.declared.name.NameError.TheVariants.{Control}
 use Rattle.ld_names.proofs.Lower.{control-lower}
 use Rattle.std.proofs.lemmas.List.{length-map}
 use Rattle.std.specs.List.{list_any}
-use Rattle.ld_names.specs.Normal.{IsName, is_blank, onto_trimmed, trim_end, trim_start, trim, lower, normal_of, checked, is_relative, is_control}
+use Rattle.ld_names.specs.Normal.{IsName, is_blank, onto_trimmed, trim_end, trim_start, trim, lower, normal_of, checked_name, is_relative, is_control}
 
 onto_trimmed_some : (x : ℕ) (xs : List ℕ) (y : ℕ) → onto_trimmed x (xs ++ y ∷ []) ≡ x ∷ xs ++ y ∷ []
 onto_trimmed_some x [] y = refl
@@ -72,7 +72,7 @@ lowered-same : (text : List ℕ) → map lower (trim (map lower (trim text))) �
 lowered-same text =
     ap (λ xs. map lower (trim_end xs)) (trim_start-lower (trim text)) ∙ ap (map lower) (trim_end-lower (trim_start (trim text))) ∙ lowered-again (trim (trim text)) ∙ ap (map lower) (trim-trim text)
 
-checked-same : (xs name : List ℕ) → checked xs ≡ Ok name → xs ≡ name
+checked-same : (xs name : List ℕ) → checked_name xs ≡ Ok name → xs ≡ name
 checked-same xs name is = grind (arith, tests)
 
 -- a normal form is its own normal form
@@ -80,7 +80,7 @@ pub normal_of-again : (text name : List ℕ) → normal_of text ≡ Ok name → 
 unfolding normal_of
 normal_of-again text name is =
     let same : map lower (trim text) ≡ name = checked-same _ _ is in
-    ap (λ xs. checked (map lower (trim xs))) (sym same) ∙ ap checked (lowered-same text) ∙ is
+    ap (λ xs. checked_name (map lower (trim xs))) (sym same) ∙ ap checked_name (lowered-same text) ∙ is
 
 -- the normal form of a text that is relative once it is trimmed and lowered
 pub normal_of-relative : (text trimmed : List ℕ) → trimmed ≡ trim text → (length trimmed == 0) ≡ false → length trimmed ≤ 255 → is_relative (map lower trimmed) ≡ true → normal_of text ≡ cond (list_any is_control trimmed) (Err Control) (Ok (map lower trimmed))
@@ -89,8 +89,8 @@ normal_of-relative text trimmed is some short relative =
     let same : length (map lower trimmed) ≡ length trimmed = length-map trimmed lower in
     let some' : (length (map lower trimmed) == 0) ≡ false = ap (λ n. n == 0) same ∙ some in
     let short' : nat_lt 255 (length (map lower trimmed)) ≡ false = grind (arith, tests) in
-    let fits : checked (map lower trimmed) ≡ cond (list_any is_control trimmed) (Err Control) (Ok (map lower trimmed)) = rw some' (rw short' (rw relative (rw (control-lower trimmed) refl))) in
-    ap (λ xs. checked (map lower xs)) (sym is) ∙ fits
+    let fits : checked_name (map lower trimmed) ≡ cond (list_any is_control trimmed) (Err Control) (Ok (map lower trimmed)) = rw some' (rw short' (rw relative (rw (control-lower trimmed) refl))) in
+    ap (λ xs. checked_name (map lower xs)) (sym is) ∙ fits
 
 -- what a text that passes each test says of itself
 record Passed (name : List ℕ) : Type 0 where
@@ -99,7 +99,7 @@ record Passed (name : List ℕ) : Type 0 where
   relative : is_relative name ≡ true
   plain : list_any is_control name ≡ false
 
-checked-passed : (name : List ℕ) → checked name ≡ Ok name → Passed name
+checked-passed : (name : List ℕ) → checked_name name ≡ Ok name → Passed name
 checked-passed name is = record { some = λ empty. grind (arith, tests); short = grind (arith, tests); relative = grind (arith, tests); plain = grind (arith, tests) }
 
 trimmed-lower : (xs : List ℕ) → trim_end (map lower (trim_end xs)) ≡ map lower (trim_end xs)
@@ -109,7 +109,7 @@ pub name-is : (name : List ℕ) → normal_of name ≡ Ok name → IsName name
 unfolding normal_of
 name-is name is =
     let same : map lower (trim name) ≡ name = checked-same _ _ is in
-    let passed : Passed name = checked-passed name (ap checked (sym same) ∙ is) in
+    let passed : Passed name = checked-passed name (ap checked_name (sym same) ∙ is) in
     record {
       some = passed.some;
       short = passed.short;

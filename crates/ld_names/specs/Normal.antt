@@ -52,12 +52,12 @@ abbrev pub is_control : ℕ → Bool
 is_control byte = nat_lt byte 32 || byte == 127
 
 -- a name without blanks around it, in lower case: itself, or why it is no name
-abbrev pub checked : List ℕ → Result (List ℕ) NameError
-checked name = if length name == 0 then Err Empty else if nat_lt 255 (length name) then Err TooLong else if not (is_relative name) then Err NotRelative else if list_any is_control name then Err Control else Ok name
+abbrev pub checked_name : List ℕ → Result (List ℕ) NameError
+checked_name name = if length name == 0 then Err Empty else if nat_lt 255 (length name) then Err TooLong else if not (is_relative name) then Err NotRelative else if list_any is_control name then Err Control else Ok name
 
 -- the normal form of a text, or why it has none
 unfoldable pub normal_of : List ℕ → Result (List ℕ) NameError
-normal_of text = checked (map lower (trim text))
+normal_of text = checked_name (map lower (trim text))
 
 -- what was answered is what is wanted; memory is lacking only where a name is wanted
 abbrev pub GivesName : Result (List ℕ) NameError → Result (List ℕ) NameError → Type 0

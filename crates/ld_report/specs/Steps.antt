@@ -27,15 +27,15 @@ view_words [] = codes "-" ∷ []
 view_words (turn ∷ turns) = map turn_text (turn ∷ turns)
 
 -- a step by its number, from 1, and how many entries it adds
-abbrev pub step_words : ℕ → StepPart → List (List ℕ)
-step_words number step = codes "step" ∷ decimal number ∷ codes "entries" ∷ decimal (step.end - step.first) ∷ codes "view" ∷ view_words step.view
+abbrev pub step_heading : ℕ → StepPart → List (List ℕ)
+step_heading number step = codes "step" ∷ decimal number ∷ codes "entries" ∷ decimal (step.end - step.first) ∷ codes "view" ∷ view_words step.view
 
 -- the entries that a step adds, as far as there are any in its range
 abbrev pub entries_in : List Entry → StepPart → List Entry
 entries_in entries step = take (step.end - step.first) (drop step.first entries)
 
 abbrev pub step_text : Known → Counting → List Entry → ℕ → StepPart → List ℕ
-step_text known table entries number step = line_text (step_words number step) ++ entries_text known table (entries_in entries step)
+step_text known table entries number step = line_text (step_heading number step) ++ entries_text known table (entries_in entries step)
 
 -- steps that are numbered from here on
 abbrev pub steps_from : Known → Counting → List Entry → ℕ → List StepPart → List ℕ

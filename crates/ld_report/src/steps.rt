@@ -3,7 +3,7 @@ ghost use Rattle.std.specs.List.{flat_map};
 ghost use Rattle.ld_colour.specs.Table.{counting};
 ghost use Rattle.ld_report.specs.Extending.{Extends};
 ghost use Rattle.ld_report.specs.Pieces.{line_text};
-ghost use Rattle.ld_report.specs.Steps.{entries_in, step_words, steps_text, turn_text, turn_word, view_words};
+ghost use Rattle.ld_report.specs.Steps.{entries_in, step_heading, steps_text, turn_text, turn_word, view_words};
 
 use crate::entry::append_entries;
 use crate::pieces::{print_number, print_point};
@@ -58,7 +58,7 @@ fn append_steps(
 
 #[tactic(auto, using(crate::proofs::Extending::extending))]
 fn print_step(number: usize, step: &StepPart, into: &mut Vec<u8>) -> Result<(), AllocError>
-    ensures ok { OnOk result (into.new.items ≡ into.old.items ++ line_text (step_words number step.now)) }
+    ensures ok { OnOk result (into.new.items ≡ into.old.items ++ line_text (step_heading number step.now)) }
     ensures keeps { Extends into.old.items into.new.items }
 {
     into.extend_from_slice(b"step ")?;

@@ -11,7 +11,7 @@ use Rattle.ld_line.specs.declared.line.Line.{Line}
 use Rattle.ld_line.specs.declared.line.Line.TheVariants.{Rot, Step}
 use Rattle.ld_line.specs.declared.line.RotWord.TheVariants.{Abs, Rel, Add, End}
 use Rattle.ld_steps.specs.Laws.{AreNextViews, FollowOn, IsNextView, StepLaws}
-use Rattle.ld_steps.specs.Steps.{is_step_line, last_end, last_lines, last_of, shows, step_ends, step_lines, steps_between, steps_of}
+use Rattle.ld_steps.specs.Steps.{is_step_line, last_end, last_lines, last_number, shows, step_ends, step_lines, steps_between, steps_of}
 use Rattle.ld_steps.specs.View.{one_more, view_behind, viewed}
 use Rattle.ld_steps.specs.declared.step.StepMark.{StepMark}
 use Rattle.ld_steps.specs.declared.step.Turn.{Turn}
@@ -41,7 +41,7 @@ step_lines-rise from before count (x ∷ xs) low high =
     by true on off = (omega arith, on)
     by false on off = off
 
-follow-between : (lines : List Line) (before : ℕ) (ends : List ℕ) → Rise before (length lines) ends → list_any shows (drop (last_of before ends) lines) ≡ false → FollowOn lines before (steps_between lines before ends)
+follow-between : (lines : List Line) (before : ℕ) (ends : List ℕ) → Rise before (length lines) ends → list_any shows (drop (last_number before ends) lines) ≡ false → FollowOn lines before (steps_between lines before ends)
 follow-between lines before [] rise none = none
 follow-between lines before (end ∷ ends) rise none =
     (refl, rise.0, rise-end end (length lines) ends rise.1, follow-between lines end ends rise.1 none)
@@ -59,7 +59,7 @@ follow lines =
     ends_last ends rise =
         follow-between lines 0 (ends ++ length lines ∷ []) (rise-more 0 (length lines) ends rise) (ap (λ n. list_any shows (drop n lines)) (last_of-more 0 ends (length lines)) ∙ none-left lines)
 
-    by : (ends : List ℕ) (some : Bool) → list_any shows (drop (last_of 0 ends) lines) ≡ some → Rise 0 (length lines) ends → FollowOn lines 0 (steps_between lines 0 (ends ++ last_end ends some (length lines)))
+    by : (ends : List ℕ) (some : Bool) → list_any shows (drop (last_number 0 ends) lines) ≡ some → Rise 0 (length lines) ends → FollowOn lines 0 (steps_between lines 0 (ends ++ last_end ends some (length lines)))
     by [] some is rise = ends_last [] rise
     by (end ∷ ends) true is rise = ends_last (end ∷ ends) rise
     by (end ∷ ends) false is rise =

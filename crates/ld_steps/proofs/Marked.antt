@@ -10,7 +10,7 @@ use Rattle.ld_line.specs.declared.line.Line.{Line}
 use Rattle.ld_line.specs.declared.line.Line.TheVariants.{Rot, Step}
 use Rattle.ld_line.specs.declared.line.RotWord.{RotWord}
 use Rattle.ld_steps.specs.Inside.Marking.{EndsStep, IsMarked, MarksLine}
-use Rattle.ld_steps.specs.Steps.{is_step_line, last_end, last_lines, last_of, shows, step_ends, step_lines, steps_between, steps_of}
+use Rattle.ld_steps.specs.Steps.{is_step_line, last_end, last_lines, last_number, shows, step_ends, step_lines, steps_between, steps_of}
 use Rattle.ld_steps.specs.View.{view_behind, viewed}
 use Rattle.ld_steps.specs.declared.marking.Marking.{Marking}
 use Rattle.ld_steps.specs.declared.step.StepMark.{StepMark}
@@ -41,23 +41,23 @@ step_lines-more before (x ∷ xs) line =
     by true rest = ap (λ ns. (before + 1) ∷ ns) rest
     by false rest = rest
 
-pub last_of-more : (number : ℕ) (numbers : List ℕ) (last : ℕ) → last_of number (numbers ++ last ∷ []) ≡ last
+pub last_of-more : (number : ℕ) (numbers : List ℕ) (last : ℕ) → last_number number (numbers ++ last ∷ []) ≡ last
 last_of-more number [] last = refl
 last_of-more number (next ∷ numbers) last = last_of-more next numbers last
 
-pub steps_between-more : (lines : List Line) (before : ℕ) (ends : List ℕ) (end : ℕ) → steps_between lines before (ends ++ end ∷ []) ≡ steps_between lines before ends ++ record { first_line = last_of before ends + 1; last_line = end; view = view_behind lines end } ∷ []
+pub steps_between-more : (lines : List Line) (before : ℕ) (ends : List ℕ) (end : ℕ) → steps_between lines before (ends ++ end ∷ []) ≡ steps_between lines before ends ++ record { first_line = last_number before ends + 1; last_line = end; view = view_behind lines end } ∷ []
 steps_between-more lines before [] end = refl
 steps_between-more lines before (next ∷ ends) end =
     ap (λ steps. record { first_line = before + 1; last_line = next; view = view_behind lines next } ∷ steps) (steps_between-more lines next ends end)
 
 -- ---- The last step line.
 
-pub last-within : (start before : ℕ) (xs : List Line) → start ≤ before → (start ≤ last_of start (step_lines before xs)) × (last_of start (step_lines before xs) ≤ before + length xs)
+pub last-within : (start before : ℕ) (xs : List Line) → start ≤ before → (start ≤ last_number start (step_lines before xs)) × (last_number start (step_lines before xs) ≤ before + length xs)
 last-within start before [] h = (omega arith, omega arith)
 last-within start before (x ∷ xs) h =
     by (is_step_line x) (last-within (before + 1) (before + 1) xs (omega arith)) (last-within start (before + 1) xs (omega arith))
   where
-    by : (b : Bool) → (before + 1 ≤ last_of (before + 1) (step_lines (before + 1) xs)) × (last_of (before + 1) (step_lines (before + 1) xs) ≤ before + 1 + length xs) → (start ≤ last_of start (step_lines (before + 1) xs)) × (last_of start (step_lines (before + 1) xs) ≤ before + 1 + length xs) → (start ≤ last_of start (cond b ((before + 1) ∷ step_lines (before + 1) xs) (step_lines (before + 1) xs))) × (last_of start (cond b ((before + 1) ∷ step_lines (before + 1) xs) (step_lines (before + 1) xs)) ≤ before + suc (length xs))
+    by : (b : Bool) → (before + 1 ≤ last_number (before + 1) (step_lines (before + 1) xs)) × (last_number (before + 1) (step_lines (before + 1) xs) ≤ before + 1 + length xs) → (start ≤ last_number start (step_lines (before + 1) xs)) × (last_number start (step_lines (before + 1) xs) ≤ before + 1 + length xs) → (start ≤ last_number start (cond b ((before + 1) ∷ step_lines (before + 1) xs) (step_lines (before + 1) xs))) × (last_number start (cond b ((before + 1) ∷ step_lines (before + 1) xs) (step_lines (before + 1) xs)) ≤ before + suc (length xs))
     by true on off = (omega (arith, on.0), omega (arith, on.1))
     by false on off = (off.0, omega (arith, off.1))
 
@@ -116,11 +116,11 @@ step-passed line old mid new on passed marks ended view ends lines at marked =
     record {
       marks = ends.marks ∙ ap (λ ms. ms ++ mark mid.ended mid.passed mid.view.items ∷ []) (marks ∙ marked.marks)
           ∙ ap (λ n. steps_between lines 0 before ++ mark n mid.passed mid.view.items ∷ []) (ended ∙ marked.ended)
-          ∙ ap (λ n. steps_between lines 0 before ++ mark (last_of 0 before) n mid.view.items ∷ []) passed
-          ∙ ap (λ v. steps_between lines 0 before ++ mark (last_of 0 before) (old.passed + 1) v ∷ []) seen
+          ∙ ap (λ n. steps_between lines 0 before ++ mark (last_number 0 before) n mid.view.items ∷ []) passed
+          ∙ ap (λ v. steps_between lines 0 before ++ mark (last_number 0 before) (old.passed + 1) v ∷ []) seen
           ∙ sym (ap (steps_between lines 0) numbers ∙ steps_between-more lines 0 before (old.passed + 1));
       view = ends.view ∙ seen ∙ ap (view_behind lines) (sym count);
-      ended = last ∙ sym (ap (last_of 0) numbers ∙ last_of-more 0 before (old.passed + 1));
+      ended = last ∙ sym (ap (last_number 0) numbers ∙ last_of-more 0 before (old.passed + 1));
       drawn = ends.drawn ∙ sym (ap (λ n. list_any shows (drop n (take new.passed lines))) (last ∙ sym count) ∙ ap (list_any shows) (drop-taken new.passed lines));
     }
 
@@ -134,7 +134,7 @@ line-passed line old new off passed marks ended view drawn lines at marked =
     record {
       marks = marks ∙ marked.marks ∙ ap (steps_between lines 0) (sym numbers);
       view = view ∙ marked.view ∙ sym (viewed-as (view_behind lines old.passed) line off) ∙ sym (view-more lines line old.passed at) ∙ ap (view_behind lines) (sym passed);
-      ended = ended ∙ marked.ended ∙ ap (last_of 0) (sym numbers);
+      ended = ended ∙ marked.ended ∙ ap (last_number 0) (sym numbers);
       drawn = drawn ∙ ap (λ b. b || shows line) marked.drawn ∙ ap (λ b. list_any shows (drop old.ended done) || b) (sym (one-any line)) ∙ sym (list_any-append shows (drop old.ended done) (line ∷ [])) ∙ ap (list_any shows) (sym open_lines);
     }
 
@@ -168,12 +168,12 @@ module _ (lines : List Line) (marking : Marking) (marked : IsMarked lines markin
   marks-are : marking.marks.items ≡ steps_between lines 0 (step_lines 0 lines)
   marks-are = marked.marks ∙ ap (λ ls. steps_between lines 0 (step_lines 0 ls)) all-lines
 
-  ended-is : marking.ended ≡ last_of 0 (step_lines 0 lines)
-  ended-is = marked.ended ∙ ap (λ ls. last_of 0 (step_lines 0 ls)) all-lines
+  ended-is : marking.ended ≡ last_number 0 (step_lines 0 lines)
+  ended-is = marked.ended ∙ ap (λ ls. last_number 0 (step_lines 0 ls)) all-lines
 
   drawn-is : marking.drawn ≡ list_any shows (last_lines lines)
   drawn-is =
-      marked.drawn ∙ ap (λ n. list_any shows (drop n (take marking.passed lines))) ended-is ∙ ap (λ ls. list_any shows (drop (last_of 0 (step_lines 0 lines)) ls)) all-lines
+      marked.drawn ∙ ap (λ n. list_any shows (drop n (take marking.passed lines))) ended-is ∙ ap (λ ls. list_any shows (drop (last_number 0 (step_lines 0 lines)) ls)) all-lines
 
   -- the last step is dropped
   pub dropped : marking.drawn ≡ false → (marking.marks.items ≡ [] → ⊥) → marking.marks.items ≡ steps_of lines
@@ -204,15 +204,15 @@ module _ (lines : List Line) (marking : Marking) (marked : IsMarked lines markin
   stands new last ends =
       ends.marks ∙ ap (λ ms. ms ++ mark marking.ended marking.passed marking.view.items ∷ []) marks-are
       ∙ ap (λ n. steps_between lines 0 (step_lines 0 lines) ++ mark n marking.passed marking.view.items ∷ []) ended-is
-      ∙ ap (λ v. steps_between lines 0 (step_lines 0 lines) ++ mark (last_of 0 (step_lines 0 lines)) marking.passed v ∷ []) marked.view
-      ∙ ap (λ n. steps_between lines 0 (step_lines 0 lines) ++ mark (last_of 0 (step_lines 0 lines)) n (view_behind lines n) ∷ []) passed
+      ∙ ap (λ v. steps_between lines 0 (step_lines 0 lines) ++ mark (last_number 0 (step_lines 0 lines)) marking.passed v ∷ []) marked.view
+      ∙ ap (λ n. steps_between lines 0 (step_lines 0 lines) ++ mark (last_number 0 (step_lines 0 lines)) n (view_behind lines n) ∷ []) passed
       ∙ sym (ap (steps_between lines 0) (ended-last last) ∙ steps_between-more lines 0 (step_lines 0 lines) (length lines))
 
   -- a further line has a number
   pub numbered : (marking.drawn ≡ true) ⊎ (marking.marks.items ≡ []) → length lines < 2 ^ 32 → marking.ended + 1 < 2 ^ 32
   numbered (inl on) few =
-      let open_line : list_any shows (drop (last_of 0 (step_lines 0 lines)) lines) ≡ true = sym drawn-is ∙ on in
-      let within = any-within (last_of 0 (step_lines 0 lines)) lines open_line in omega (arith, ended-is)
+      let open_line : list_any shows (drop (last_number 0 (step_lines 0 lines)) lines) ≡ true = sym drawn-is ∙ on in
+      let within = any-within (last_number 0 (step_lines 0 lines)) lines open_line in omega (arith, ended-is)
   numbered (inr none) few =
-      let first : last_of 0 (step_lines 0 lines) ≡ 0 = ap (last_of 0) (no-steps lines 0 (step_lines 0 lines) (sym marks-are ∙ none)) in
+      let first : last_number 0 (step_lines 0 lines) ≡ 0 = ap (last_number 0) (no-steps lines 0 (step_lines 0 lines) (sym marks-are ∙ none)) in
       omega (arith, ended-is)

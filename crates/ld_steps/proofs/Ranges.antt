@@ -6,7 +6,7 @@ use Rattle.std.proofs.lemmas.List.Elements.{All-cons, All-nil}
 use Rattle.std.proofs.lemmas.List.Sums.{sum_by-cons}
 use Rattle.ld_line.specs.declared.line.Line.{Line}
 use Rattle.ld_steps.specs.Laws.{AreNextViews, Cover, FollowOn, GiveEntries, PartLaw}
-use Rattle.ld_steps.specs.Parts.{part_of, parts_of}
+use Rattle.ld_steps.specs.Parts.{step_part, step_parts}
 use Rattle.ld_steps.specs.Steps.{shows, steps_of}
 use Rattle.ld_steps.specs.declared.step.StepMark.{StepMark}
 use Rattle.ld_steps.specs.declared.step.StepPart.{StepPart}
@@ -46,7 +46,7 @@ rising (suc a) (suc b) (count ∷ counts) h =
     let rest = rising a b counts (omega arith) in
     omega (arith, sum-cons count (take a counts), sum-cons count (take b counts))
 
-covers : (lines : List Line) (counts : List ℕ) (before : ℕ) (marks : List StepMark) → GiveEntries lines counts → FollowOn lines before marks → Cover (sum (take before counts)) (sum counts) (map (part_of counts) marks)
+covers : (lines : List Line) (counts : List ℕ) (before : ℕ) (marks : List StepMark) → GiveEntries lines counts → FollowOn lines before marks → Cover (sum (take before counts)) (sum counts) (map (step_part counts) marks)
 covers lines counts before [] gives follows = quiet-behind before lines counts gives follows
 covers lines counts before (mark ∷ marks) gives follows =
     let first : mark.first_line - 1 ≡ before = omega (arith, follows.0) in
@@ -59,21 +59,21 @@ inside from end (part ∷ parts) covered =
     let rest = inside part.end end parts covered.2 in
     (omega (arith, covered.0, covered.1, rest.0), All-cons (λ (part : StepPart). (part.first ≤ part.end) × (part.end ≤ end)) part parts (covered.1, rest.0) rest.1)
 
-views-are : (counts : List ℕ) (marks : List StepMark) → map (λ part. part.view) (map (part_of counts) marks) ≡ map (λ mark. mark.view) marks
+views-are : (counts : List ℕ) (marks : List StepMark) → map (λ part. part.view) (map (step_part counts) marks) ≡ map (λ mark. mark.view) marks
 views-are counts [] = refl
 views-are counts (mark ∷ marks) = ap (λ views. mark.view ∷ views) (views-are counts marks)
 
-some-parts : (counts : List ℕ) (marks : List StepMark) → (marks ≡ [] → ⊥) → map (part_of counts) marks ≡ [] → ⊥
+some-parts : (counts : List ℕ) (marks : List StepMark) → (marks ≡ [] → ⊥) → map (step_part counts) marks ≡ [] → ⊥
 some-parts counts [] some none = some refl
 some-parts counts (mark ∷ marks) some none = cc
 
 pub parts : PartLaw
-unfolding parts_of
+unfolding step_parts
 parts lines counts gives =
     let covered = covers lines counts 0 (steps_of lines) gives (steps.follow lines) in
     record {
       some = some-parts counts (steps_of lines) (steps.some lines);
       cover = covered;
-      within = (inside 0 (sum counts) (map (part_of counts) (steps_of lines)) covered).1;
+      within = (inside 0 (sum counts) (map (step_part counts) (steps_of lines)) covered).1;
       views = subst (AreNextViews []) (sym (views-are counts (steps_of lines))) (steps.views lines);
     }

@@ -3,7 +3,7 @@ use Rattle.std.specs.Prelude.{◌≡◌, ◌≢◌, ◌≤◌, ◌⊎◌, ◌+�
 use Rattle.std.specs.List.{list_any}
 use Rattle.ld_line.specs.declared.line.Line.{Line}
 use Rattle.ld_line.specs.declared.line.RotWord.{RotWord}
-use Rattle.ld_steps.specs.Parts.{parts_of}
+use Rattle.ld_steps.specs.Parts.{step_parts}
 use Rattle.ld_steps.specs.Steps.{shows, steps_of}
 use Rattle.ld_steps.specs.View.{rotated}
 use Rattle.ld_steps.specs.declared.step.StepMark.{StepMark}
@@ -58,4 +58,4 @@ GiveEntries (line ∷ lines) (count ∷ counts) = (shows line ≡ false → coun
 GiveEntries lines counts = ⊥
 
 abbrev pub PartLaw : Type 0
-PartLaw = (lines : List Line) (counts : List ℕ) → GiveEntries lines counts → AreSteps (sum counts) (parts_of lines counts)
+PartLaw = (lines : List Line) (counts : List ℕ) → GiveEntries lines counts → AreSteps (sum counts) (step_parts lines counts)

@@ -26,13 +26,13 @@ step_lines before (line ∷ lines) =
     if is_step_line line then (before + 1) ∷ step_lines (before + 1) lines else step_lines (before + 1) lines
 
 -- the last of further numbers, or the one before them
-abbrev pub last_of : ℕ → List ℕ → ℕ
-last_of number [] = number
-last_of number (next ∷ numbers) = last_of next numbers
+abbrev pub last_number : ℕ → List ℕ → ℕ
+last_number number [] = number
+last_number number (next ∷ numbers) = last_number next numbers
 
 -- the lines of the last step, which stand behind all step lines
 abbrev pub last_lines : List Line → List Line
-last_lines lines = drop (last_of 0 (step_lines 0 lines)) lines
+last_lines lines = drop (last_number 0 (step_lines 0 lines)) lines
 
 -- Where the last step ends, by the ends of those before it and whether it shows anything: with the last line, and
 -- nowhere where it is dropped.

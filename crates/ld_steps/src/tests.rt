@@ -1,7 +1,7 @@
 //! Worked texts, cut into their steps.
 ghost use Rattle.std.specs.Prelude.{◌≡◌, [], ◌∷◌, codes, map};
 ghost use Rattle.ld_line.specs.Reading.{line_of};
-ghost use Rattle.ld_steps.specs.Parts.{parts_of};
+ghost use Rattle.ld_steps.specs.Parts.{step_parts};
 ghost use Rattle.ld_steps.specs.Steps.{steps_of};
 ghost use Rattle.ld_steps.specs.declared.step.StepMark.{StepMark};
 ghost use Rattle.ld_steps.specs.declared.step.StepPart.{StepPart};
@@ -111,6 +111,6 @@ fn steps_by_definition()
     ensures no_lines { steps_of [] ≡ record { first_line = 1; last_line = 0; view = [] } ∷ [] }
     ensures dropped { steps_of (map line_of (codes "0 STEP" ∷ codes "0 ROTSTEP END" ∷ codes "0 STEPS" ∷ [])) ≡
         record { first_line = 1; last_line = 1; view = [] } ∷ record { first_line = 2; last_line = 2; view = [] } ∷ [] }
-    ensures ranges { parts_of (map line_of (codes "2 24 0 0 0 1 0 0" ∷ codes "0 STEP" ∷ codes "2 24 0 0 0 1 0 0" ∷ [])) (1 ∷ 0 ∷ 3 ∷ []) ≡
+    ensures ranges { step_parts (map line_of (codes "2 24 0 0 0 1 0 0" ∷ codes "0 STEP" ∷ codes "2 24 0 0 0 1 0 0" ∷ [])) (1 ∷ 0 ∷ 3 ∷ []) ≡
         record { first = 0; end = 1; view = [] } ∷ record { first = 1; end = 4; view = [] } ∷ [] }
 {}

@@ -10,7 +10,7 @@ use Rattle.std.proofs.lemmas.Map.{keys-set_value, lookup-set_value}
 use Rattle.ld_names.specs.declared.file.FileId.{FileId}
 use Rattle.ld_names.specs.Finding.{IsFileEquality}
 use Rattle.ld_names.specs.Standing.{Known, Map, Text, known_map, same_file, standing}
-use Rattle.ld_texts.specs.Editing.{AreKnown, edit_change, edited, edited_map, files_in, is_block_text, map_with_texts, misfit, moved, misses, names, refusal_of, refused_if, text_in, text_of, turned, with_texts, written_by}
+use Rattle.ld_texts.specs.Editing.{AreKnown, edit_change, edited, edited_map, files_in, is_block_text, map_with_texts, misfit, move_change, misses, names, refusal_of, refused_if, text_in, text_of, turned, with_texts, written_by}
 use Rattle.ld_texts.specs.EditLaws.{EditLaws, EditsMaps, Keeps, Weighs, grows}
 use Rattle.ld_texts.specs.Known.{file_at, files_of, id_of, is_part_at, lines_at, weight_of}
 use Rattle.ld_texts.specs.Learning.{Apply, Learn, Ready, change_of, edit_in, known_after}
@@ -42,7 +42,7 @@ change-stays known (Delete file line) = turned-stays known _ file _ (id_of-edite
 change-stays known (New file) = turned-stays known _ file _ (id_of-edited known (New file) file)
 change-stays known (Drop file) = turned-stays known _ file _ (id_of-edited known (Drop file) file)
 change-stays known (Move from to) =
-    ap (λ id. moved id (id_of (edited known (Move from to)) to)) (id_of-edited known (Move from to) from) ∙ ap (moved (id_of known from)) (id_of-edited known (Move from to) to)
+    ap (λ id. move_change id (id_of (edited known (Move from to)) to)) (id_of-edited known (Move from to) from) ∙ ap (move_change (id_of known from)) (id_of-edited known (Move from to) to)
 
 -- a change that is an edit turns what the edit turns
 pub applied : (before after : Known) (ready : Ready) (edit : Edit) (change : Change) → edit_in ready ≡ Some edit → after ≡ known_after before ready → change_of after ready ≡ Some change → edit_change before edit ≡ Some change

@@ -120,9 +120,9 @@ abbrev pub turned : Known → FileId → Turned → Option Change
 turned known file how = option_map (λ id. record { first = (record { 0 = id }, how); second = None }) (id_of known file)
 
 -- the file that lost its lines, and the one that has them
-abbrev pub moved : Option ℕ → Option ℕ → Option Change
-moved (Some from) (Some to) = Some (record { first = (record { 0 = from }, Went); second = Some (record { 0 = to }, Appeared) })
-moved from to = None
+abbrev pub move_change : Option ℕ → Option ℕ → Option Change
+move_change (Some from) (Some to) = Some (record { first = (record { 0 = from }, Went); second = Some (record { 0 = to }, Appeared) })
+move_change from to = None
 
 -- by the numbers of the known files
 abbrev pub edit_change : Known → Edit → Option Change
@@ -131,7 +131,7 @@ edit_change known (Insert file line text) = turned known file Altered
 edit_change known (Delete file line) = turned known file Altered
 edit_change known (New file) = turned known file Appeared
 edit_change known (Drop file) = turned known file Went
-edit_change known (Move from to) = moved (id_of known from) (id_of known to)
+edit_change known (Move from to) = move_change (id_of known from) (id_of known to)
 
 -- ---- the memory of an edit
 

@@ -1,7 +1,7 @@
 // Prepared edits are made.
 ghost use Rattle.std.specs.Prelude.{◌≡◌, ◌≤◌, ◌<◌, ◌∷◌, [], IsSome, None, Some, length};
 ghost use Rattle.std.specs.Vec.{vec_capacity};
-ghost use Rattle.ld_texts.specs.Editing.{AreKnown, edit_change, edited, files_in, lines_needed, moved, refusal_of, text_of, turned};
+ghost use Rattle.ld_texts.specs.Editing.{AreKnown, edit_change, edited, files_in, lines_needed, move_change, refusal_of, text_of, turned};
 ghost use Rattle.ld_texts.specs.Inside.Placed.{with_text_at};
 ghost use Rattle.ld_texts.specs.Known.{id_of, lines_at, weight_of};
 ghost use Rattle.ld_texts.specs.declared.change.Turned.TheVariants.{Altered, Appeared, Went};
@@ -119,7 +119,7 @@ impl Texts {
         ensures known { self.new.known ≡ edited self.old.known (Edit.Move from to) }
         ensures max_files { self.new.max_files ≡ self.old.max_files }
         ensures max_weight { self.new.max_weight ≡ self.old.max_weight }
-        ensures change { moved (id_of self.old.known from) (id_of self.old.known to) ≡ Some result }
+        ensures change { move_change (id_of self.old.known from) (id_of self.old.known to) ≡ Some result }
     {
         let _ = &self.alloc;
         let source = self.number(&from);

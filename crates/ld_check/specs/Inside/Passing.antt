@@ -5,7 +5,7 @@ use Rattle.ld_names.specs.declared.file.FileId.{FileId}
 use Rattle.ld_line.specs.declared.line.Line.{Line}
 use Rattle.ld_check.specs.Findings.{findings_at}
 use Rattle.ld_check.specs.Inside.Drawn.{HasDrawn}
-use Rattle.ld_check.specs.Inside.Ranking.{place_of}
+use Rattle.ld_check.specs.Inside.Ranking.{place_of_rank}
 use Rattle.ld_check.specs.Order.{is_below, is_body, is_statement, rank_of}
 use Rattle.ld_check.specs.Text.{said}
 use Rattle.ld_check.specs.declared.finding.Finding.{Finding}
@@ -20,7 +20,7 @@ pub record IsPassed (passed : Passed) (lines : List (List ℕ)) : Type 0 where
   pub body : passed.has_body ≡ list_any (said is_body) lines
   pub statement : passed.has_statement ≡ list_any (said is_statement) lines
   -- a rank is below that of one of them where it is below the highest
-  pub highest : passed.has_body ≡ false → (rank : Option ℕ) → is_below rank (place_of passed.highest) ≡ list_any (λ earlier. is_below rank (rank_of earlier)) (drop 5 lines)
+  pub highest : passed.has_body ≡ false → (rank : Option ℕ) → is_below rank (place_of_rank passed.highest) ≡ list_any (λ earlier. is_below rank (rank_of earlier)) (drop 5 lines)
   pub drawn : HasDrawn passed.drawings lines
 
 -- a line more is passed, and its findings are listed

@@ -13,9 +13,9 @@ rank_place Keywords = 4
 rank_place CommandLine = 5
 rank_place History = 6
 
-abbrev pub place_of : Option Rank → Option ℕ
-place_of rank = option_map rank_place rank
+abbrev pub place_of_rank : Option Rank → Option ℕ
+place_of_rank rank = option_map rank_place rank
 
 -- what is below one of two ranks is below the higher
 abbrev pub IsHigher : Option Rank → Option Rank → Option Rank → Type 0
-IsHigher first second higher = (rank : Option ℕ) → is_below rank (place_of higher) ≡ (is_below rank (place_of first) || is_below rank (place_of second))
+IsHigher first second higher = (rank : Option ℕ) → is_below rank (place_of_rank higher) ≡ (is_below rank (place_of_rank first) || is_below rank (place_of_rank second))

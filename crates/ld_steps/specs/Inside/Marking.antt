@@ -2,7 +2,7 @@
 use Rattle.std.specs.Prelude.{◌≡◌, ◌+◌, false, List, [], ◌∷◌, ◌++◌, take, drop, Some, slice_get}
 use Rattle.std.specs.List.{list_any}
 use Rattle.ld_line.specs.declared.line.Line.{Line}
-use Rattle.ld_steps.specs.Steps.{last_of, shows, step_lines, steps_between}
+use Rattle.ld_steps.specs.Steps.{last_number, shows, step_lines, steps_between}
 use Rattle.ld_steps.specs.View.{view_behind}
 use Rattle.ld_steps.specs.declared.marking.Marking.{Marking}
 
@@ -10,7 +10,7 @@ use Rattle.ld_steps.specs.declared.marking.Marking.{Marking}
 pub record IsMarked (lines : List Line) (marking : Marking) : Type 0 where
   pub marks : marking.marks.items ≡ steps_between lines 0 (step_lines 0 (take marking.passed lines))
   pub view : marking.view.items ≡ view_behind lines marking.passed
-  pub ended : marking.ended ≡ last_of 0 (step_lines 0 (take marking.passed lines))
+  pub ended : marking.ended ≡ last_number 0 (step_lines 0 (take marking.passed lines))
   pub drawn : marking.drawn ≡ list_any shows (drop marking.ended (take marking.passed lines))
 
 -- one step more has ended, at the last line that is passed

@@ -5,7 +5,7 @@ use Rattle.ld_check.specs.Findings.{found}
 use Rattle.ld_check.specs.Inside.AtLine.{header_findings, said_findings, written_findings}
 use Rattle.ld_check.specs.Inside.Drawn.{HasDrawn}
 use Rattle.ld_check.specs.Inside.Passing.{IsPassed, header_rank}
-use Rattle.ld_check.specs.Inside.Ranking.{place_of}
+use Rattle.ld_check.specs.Inside.Ranking.{place_of_rank}
 use Rattle.ld_check.specs.Order.{is_below, is_body, is_statement, rank_of}
 use Rattle.ld_check.specs.Lines.{draws_same}
 use Rattle.ld_check.specs.Text.{said}
@@ -21,11 +21,11 @@ returns c lines at passed =
     let says : c.in_ok-line.line ≡ line_of bytes = c.in_ok-line.ensures.ok in
     let more : take number lines ≡ before ++ bytes ∷ [] = one_more lines number bytes c.requires at in
     let size = size_before lines number bytes c.requires at in
-    let rank : place_of c.rank-rank.result ≡ header_rank number c.args.passed.now bytes (line_of bytes) = c.rank-rank.ensures ∙ ap (λ line. header_rank number c.args.passed.now bytes line) says in
+    let rank : place_of_rank c.rank-rank.result ≡ header_rank number c.args.passed.now bytes (line_of bytes) = c.rank-rank.ensures ∙ ap (λ line. header_rank number c.args.passed.now bytes line) says in
     let over : not (list_any (said is_body) (take number lines)) ≡ not (c.args.passed.now.has_body || is_body (line_of bytes)) = ap (λ taken. not (list_any (said is_body) taken)) more ∙ ap not (any_more (said is_body) before bytes ∙ ap (λ b. b || is_body (line_of bytes)) (sym passed.body)) in
     let lacks : c.lacks_statement.result ≡ (is_body (line_of bytes) && not (list_any (said is_body) before) && not (list_any (said is_statement) before)) = c.lacks_statement.ensures ∙ ap (λ line. is_body line && not c.args.passed.now.has_body && not c.args.passed.now.has_statement) says ∙ ap (λ b. is_body (line_of bytes) && not b && not c.args.passed.now.has_statement) passed.body ∙ ap (λ b. is_body (line_of bytes) && not (list_any (said is_body) before) && not b) passed.statement in
     let earlier = list_any (λ earlier. is_below (rank_of bytes) (rank_of earlier)) (drop 5 before) in
-    let late : c.is_below.result ≡ (nat_lt 5 number && not (list_any (said is_body) (take number lines)) && earlier) = c.is_below.ensures ∙ ap (λ place. is_below place (place_of c.args.passed.now.highest)) rank ∙ out_of_order (nat_lt 5 number) c.args.passed.now.has_body (is_body (line_of bytes)) (rank_of bytes) (place_of c.args.passed.now.highest) earlier (λ none. passed.highest none (rank_of bytes)) ∙ ap (λ b. nat_lt 5 number && b && earlier) (sym over) in
+    let late : c.is_below.result ≡ (nat_lt 5 number && not (list_any (said is_body) (take number lines)) && earlier) = c.is_below.ensures ∙ ap (λ place. is_below place (place_of_rank c.args.passed.now.highest)) rank ∙ out_of_order (nat_lt 5 number) c.args.passed.now.has_body (is_body (line_of bytes)) (rank_of bytes) (place_of_rank c.args.passed.now.highest) earlier (λ none. passed.highest none (rank_of bytes)) ∙ ap (λ b. nat_lt 5 number && b && earlier) (sym over) in
     let repeated : c.in_ok-draw.field-0 ≡ list_any (λ earlier. draws_same (line_of bytes) (line_of earlier)) before = c.in_ok-draw.ensures.repeated before passed.drawn ∙ ap (λ line. list_any (λ earlier. draws_same line (line_of earlier)) before) says in
     let old = c.args.into.now.items in
     let header : c.check_header.new.into.items ≡ old ++ header_findings c.args.file.now bytes number = c.in_ok-check_header.ensures in
