@@ -9,7 +9,7 @@ use Rattle.ld_names.specs.Normal.{normal_of}
 use Rattle.ld_line.specs.Colour.{colour_word}
 use Rattle.ld_line.specs.Field.{after_fields, fields}
 use Rattle.ld_line.specs.Kind.{points_in}
-use Rattle.ld_line.specs.Meta.{meta_of, rotated, stated, turned}
+use Rattle.ld_line.specs.Meta.{meta_of, rotation_line, stated, rotation_by}
 use Rattle.ld_line.specs.Numbers.{angles_of, number_at, numbers_of, onto_numbers, points_of}
 use Rattle.ld_line.specs.Reading.{draw_of, drawn, file_named, line_in, line_of, reference_of, referred}
 use Rattle.ld_line.specs.declared.line.Angles.{Angles}
@@ -91,18 +91,18 @@ stated-zeros : (word : Option BfcWord) → HasZeros (stated word)
 stated-zeros (Some word) = tt
 stated-zeros None = tt
 
-turned-zeros : (angles : Angles) (fields : List (List ℕ)) → HasZeros (turned angles fields)
-turned-zeros angles [] = tt
-turned-zeros angles (word ∷ []) = search (if-zeros, tt)
-turned-zeros angles (word ∷ more ∷ fields) = tt
+rotation_by-zeros : (angles : Angles) (fields : List (List ℕ)) → HasZeros (rotation_by angles fields)
+rotation_by-zeros angles [] = tt
+rotation_by-zeros angles (word ∷ []) = search (if-zeros, tt)
+rotation_by-zeros angles (word ∷ more ∷ fields) = tt
 
-rotated-zeros : (numbers : Result (List ℤ) NumError) (fields : List (List ℕ)) → HasZeros (rotated numbers fields)
-rotated-zeros (Err e) fields = tt
-rotated-zeros (Ok numbers) fields = turned-zeros (angles_of numbers) fields
+rotation_line-zeros : (numbers : Result (List ℤ) NumError) (fields : List (List ℕ)) → HasZeros (rotation_line numbers fields)
+rotation_line-zeros (Err e) fields = tt
+rotation_line-zeros (Ok numbers) fields = rotation_by-zeros (angles_of numbers) fields
 
 meta_of-zeros : (fields : List (List ℕ)) → HasZeros (meta_of fields)
 meta_of-zeros [] = tt
-meta_of-zeros (command ∷ fields) = search (if-zeros, stated-zeros, rotated-zeros, tt) depth 20
+meta_of-zeros (command ∷ fields) = search (if-zeros, stated-zeros, rotation_line-zeros, tt) depth 20
 
 line_in-zeros : (all : List (List ℕ)) (rest : List ℕ) → HasZeros (line_in all rest)
 line_in-zeros [] rest = tt
