@@ -123,14 +123,14 @@ block_at_head : (own : List ℕ) (is_data : Bool) (line : List ℕ) (lines : Lis
 block_at_head own true line lines = refl
 block_at_head own false line lines = refl
 
-begun_blocks : (own : List ℕ) (earlier blocks : List Block) → AreGood earlier blocks → AreNamed blocks → begun_blocks own (flat_map block_lines blocks) ≡ blocks
-begun_blocks own earlier [] h named = refl
-begun_blocks own earlier (b ∷ blocks) h named =
+begun_again : (own : List ℕ) (earlier blocks : List Block) → AreGood earlier blocks → AreNamed blocks → begun_blocks own (flat_map block_lines blocks) ≡ blocks
+begun_again own earlier [] h named = refl
+begun_again own earlier (b ∷ blocks) h named =
     let head = head_word b.is_data ++ b.name in
     let rest = flat_map block_lines blocks in
     let at : block_at own head (b.lines ++ rest) (block_line_of head) ≡ block b.is_data (block_name own head) (inside (b.lines ++ rest)) ∷ [] = ap (block_at own head (b.lines ++ rest)) (head_is b.is_data b.name) ∙ block_at_head own b.is_data head (b.lines ++ rest) in
     let lines : inside (b.lines ++ rest) ≡ b.lines = inside_lines b.lines rest h.1 ∙ ap (λ ls. b.lines ++ ls) (inside_none blocks) ∙ append-nil b.lines in
-    let more : begun_blocks own (b.lines ++ rest) ≡ blocks = begun_lines own b.lines rest h.1 ∙ begun_blocks own (earlier ++ b ∷ []) blocks h.2 named.1 in
+    let more : begun_blocks own (b.lines ++ rest) ≡ blocks = begun_lines own b.lines rest h.1 ∙ begun_again own (earlier ++ b ∷ []) blocks h.2 named.1 in
     ap (λ bs. bs ++ begun_blocks own (b.lines ++ rest)) at
     ∙ ap (λ name. block b.is_data name (inside (b.lines ++ rest)) ∷ begun_blocks own (b.lines ++ rest)) (head_name own b.is_data b.name named.0)
     ∙ ap (λ ls. block b.is_data b.name ls ∷ begun_blocks own (b.lines ++ rest)) lines
@@ -176,7 +176,7 @@ cut_again : (own : List ℕ) (blocks : List Block) → AreGood [] blocks → Are
 cut_again own blocks h named text =
     let lines = flat_map block_lines blocks in
     let found = file_stands [] blocks h text in
-    ap (λ behind. firsts [] (opening own lines behind ++ begun_blocks own lines)) found.1 ∙ ap (firsts []) (begun_blocks own [] blocks h named) ∙ firsts_good [] blocks h
+    ap (λ behind. firsts [] (opening own lines behind ++ begun_blocks own lines)) found.1 ∙ ap (firsts []) (begun_again own [] blocks h named) ∙ firsts_good [] blocks h
 
 pub split_of_joined : AreNames → LinesOfTexts → SplitOfJoined
 unfolding join_of blocks_of
