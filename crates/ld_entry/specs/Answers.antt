@@ -1,10 +1,10 @@
 -- Answers to queries: the first fault of an expansion, or its entries. The limit on entries is this project's own.
-use Rattle.std.specs.Prelude.{ℕ, zero, suc, ◌-◌, List, [], ◌∷◌, length, slice_get, Option, Some, None, Result, Ok, Err}
+use Rattle.std.specs.Prelude.{ℕ, zero, suc, ◌-◌, List, [], ◌∷◌, length, map, slice_get, Option, Some, None, Result, Ok, Err}
 use Rattle.ld_names.specs.declared.file.TextId.{TextId}
 use Rattle.ld_colour.specs.declared.colour.Colour.{Colour}
 use Rattle.ld_entry.specs.Carrying.{colour_above, Outcome}
 use Rattle.ld_entry.specs.NumberedTexts.{NumberedTexts}
-use Rattle.ld_entry.specs.Outcomes.{all, context_of}
+use Rattle.ld_entry.specs.Outcomes.{all, all_by_line, context_of}
 use Rattle.ld_entry.specs.declared.entry.Entry.{Entry}
 use Rattle.ld_entry.specs.declared.entry.Entry.TheVariants.{Drawn, Part}
 use Rattle.ld_entry.specs.declared.entry.Fault.{Fault}
@@ -50,6 +50,15 @@ left_below depth way = depth - suc (length way)
 -- the answer to a query of a root in a colour
 unfoldable pub answer : NumberedTexts → ℕ → ℕ → TextId → Colour → Result (List Entry) Fault
 answer texts depth most root colour = answer_of most (all (left_below depth []) (context_of texts [] root (colour_above colour)))
+
+-- what each line of a root gives in the colour of a query
+abbrev pub root_outcomes : NumberedTexts → ℕ → TextId → Colour → List (List Outcome)
+root_outcomes texts depth root colour = all_by_line (left_below depth []) (context_of texts [] root (colour_above colour))
+
+-- How many outcomes each line of a root gives in the colour of a query. In an answer these are its entries, so that
+-- `step_parts (texts.lines root)` of them are the steps of the answer.
+unfoldable pub outcome_counts : NumberedTexts → ℕ → TextId → Colour → List ℕ
+outcome_counts texts depth root colour = map length (root_outcomes texts depth root colour)
 
 -- the outcomes up to and with the first fault, or the first entry too many
 abbrev pub until_end : ℕ → List Outcome → List Outcome
