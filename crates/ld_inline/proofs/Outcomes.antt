@@ -27,11 +27,12 @@ use Rattle.ld_entry.specs.Outcomes.{Context, context_of, outcomes_from, own_entr
 use Rattle.ld_entry.specs.declared.entry.Entry.{Entry}
 use Rattle.ld_entry.specs.declared.entry.Entry.TheVariants.{Drawn, Part}
 use Rattle.ld_entry.specs.declared.entry.Source.{Source}
+use Rattle.ld_steps.specs.Parts.{entries_in}
 use Rattle.ld_steps.specs.declared.step.StepPart.{StepPart}
 use Rattle.ld_steps.specs.declared.step.Turn.{Turn}
 use Rattle.ld_inline.specs.Flat.{Shape, flat_colour, flat_points, flat_shape, shape_of}
 use Rattle.ld_inline.specs.Inside.Shown.{IsShown}
-use Rattle.ld_inline.specs.Text.{entries_in, stands_behind, step_rotation}
+use Rattle.ld_inline.specs.Text.{stands_behind, step_rotation}
 use Rattle.ld_inline.proofs.Said.{All-range, colour_again, colour_number, said, said_clip, said_entries, said_entry, said_rotation, said_steps}
 
 -- an outcome without its source

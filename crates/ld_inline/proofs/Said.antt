@@ -29,11 +29,12 @@ use Rattle.ld_colour.specs.declared.colour.Colour.TheVariants.{Main, Edge, Code,
 use Rattle.ld_entry.specs.Lawful.{IsLawfulEntry, zero_point}
 use Rattle.ld_entry.specs.declared.entry.Entry.{Entry}
 use Rattle.ld_entry.specs.declared.entry.Entry.TheVariants.{Drawn, Part}
+use Rattle.ld_steps.specs.Parts.{entries_in}
 use Rattle.ld_steps.specs.declared.step.StepPart.{StepPart}
 use Rattle.ld_steps.specs.declared.step.Turn.{Turn}
 use Rattle.ld_inline.specs.Flat.{flat_colour, flat_points}
 use Rattle.ld_inline.specs.Inside.Shown.{AreFourPoints, AreShownSteps, IsShown, IsShownColour, IsShownRotation}
-use Rattle.ld_inline.specs.Text.{Words, clip_lines, written_colour, drawn_words, entries_in, entries_lines, entry_lines, stands_behind, step_rotation, stepped_words, steps_lines, text_of, written_points}
+use Rattle.ld_inline.specs.Text.{Words, clip_lines, written_colour, drawn_words, entries_lines, entry_lines, stands_behind, step_rotation, stepped_words, steps_lines, text_of, written_points}
 
 -- what is known of how words and lines are read
 pub record Reads : Type 0 where

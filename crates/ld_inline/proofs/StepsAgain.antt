@@ -16,13 +16,13 @@ use Rattle.ld_entry.specs.Outcomes.{concatenation}
 use Rattle.ld_entry.specs.declared.entry.Entry.{Entry}
 use Rattle.ld_entry.specs.declared.entry.Entry.TheVariants.{Drawn, Part}
 use Rattle.ld_steps.specs.Laws.{AreNextViews, AreSteps, Cover}
-use Rattle.ld_steps.specs.Parts.{step_part, step_parts}
+use Rattle.ld_steps.specs.Parts.{entries_in, step_part, step_parts}
 use Rattle.ld_steps.specs.Steps.{last_end, last_lines, last_number, shows, step_ends, step_lines, steps_between, steps_of}
 use Rattle.ld_steps.specs.View.{view_behind, viewed}
 use Rattle.ld_steps.specs.declared.step.StepPart.{StepPart}
 use Rattle.ld_steps.specs.declared.step.Turn.{Turn}
 use Rattle.ld_inline.specs.Flat.{Shape, flat_points, flat_shape, flat_step, shape_of, shapes_of}
-use Rattle.ld_inline.specs.Text.{entries_in, stands_behind, step_rotation}
+use Rattle.ld_inline.specs.Text.{stands_behind, step_rotation}
 use Rattle.ld_inline.proofs.Outcomes.{flat_entry, seen_clip, seen_entries, seen_steps}
 use Rattle.ld_inline.proofs.Said.{colour_number, said, said_clip, said_entries, said_entry, said_rotation, said_steps}
 use Rattle.ld_inline.proofs.Views.{rotated_by, view_again}

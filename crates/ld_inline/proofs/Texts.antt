@@ -13,10 +13,11 @@ use Rattle.ld_line.specs.Printing.{coordinates}
 use Rattle.ld_line.specs.declared.line.RotWord.TheVariants.{Add}
 use Rattle.ld_colour.specs.Table.{Counting}
 use Rattle.ld_entry.specs.declared.entry.Entry.{Entry}
+use Rattle.ld_steps.specs.Parts.{entries_in}
 use Rattle.ld_steps.specs.declared.step.StepPart.{StepPart}
 use Rattle.ld_steps.specs.declared.step.Turn.{Turn}
 use Rattle.ld_inline.specs.Inside.Shown.{AreShownSteps, IsShownStep, following}
-use Rattle.ld_inline.specs.Text.{Words, entries_in, entries_lines, last_turn, lines_text, rotation_to, same_turn, stands_behind, step_rotation, stepped_words, steps_lines}
+use Rattle.ld_inline.specs.Text.{Words, entries_lines, last_turn, lines_text, rotation_to, same_turn, stands_behind, step_rotation, stepped_words, steps_lines}
 
 following-append : (xs ys : List (List ℕ)) → following (xs ++ ys) ≡ following xs ++ following ys
 following-append xs ys = flat_map-append (λ (word : List ℕ). 32 ∷ word) xs ys

@@ -2,7 +2,7 @@
 -- step its drawn lines and its step line. Lines are those of File Format 1.0.2 ("Line Type 2" to "Line Type 5",
 -- "Colours", "STEP"), of the Back Face Culling Language Extension ("CERTIFY", "CLIP", "NOCLIP"), and rotation steps as
 -- MLCad writes them.
-use Rattle.std.specs.Prelude.{◌≡◌, ◌-◌, ◌&&◌, ℕ, Bool, true, false, List, [], ◌∷◌, ◌++◌, map, take, drop, reverse, Option, Some, None, Result, Ok, Err, if◌then◌else◌, codes, decimal, unwrap_or, ⊤}
+use Rattle.std.specs.Prelude.{◌≡◌, ◌&&◌, ℕ, Bool, true, false, List, [], ◌∷◌, ◌++◌, map, take, reverse, Option, Some, None, Result, Ok, Err, if◌then◌else◌, codes, decimal, unwrap_or, ⊤}
 use Rattle.std.specs.Cmp.Lexicographic.{pointwise}
 use Rattle.std.specs.List.{flat_map, fold}
 use Rattle.std.specs.Ordering.{int_eq}
@@ -25,6 +25,7 @@ use Rattle.ld_colour.specs.declared.colour.Colour.{Colour}
 use Rattle.ld_colour.specs.declared.colour.Colour.TheVariants.{Main, Edge, Code, EdgeOf, Direct}
 use Rattle.ld_entry.specs.declared.entry.Entry.{Entry}
 use Rattle.ld_entry.specs.declared.entry.Entry.TheVariants.{Drawn, Part}
+use Rattle.ld_steps.specs.Parts.{entries_in}
 use Rattle.ld_steps.specs.declared.step.StepPart.{StepPart}
 use Rattle.ld_steps.specs.declared.step.Turn.{Turn}
 use Rattle.ld_inline.specs.declared.inlining.InlineError.{InlineError}
@@ -105,10 +106,6 @@ stepped_words None = step_words
 stepped_words (Some word) = rotation_words word
 
 -- ---- The text.
-
--- the entries that a step adds
-abbrev pub entries_in : List Entry → StepPart → List Entry
-entries_in entries step = take (step.end - step.first) (drop step.first entries)
 
 -- the lines of steps, behind this view and where this clipping stands
 abbrev pub steps_lines : Counting → List Entry → List Turn → Bool → List StepPart → List Words

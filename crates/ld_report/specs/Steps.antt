@@ -1,10 +1,11 @@
 -- Printed steps, which are this project's own: a line for each step, and the lines of its entries behind it.
-use Rattle.std.specs.Prelude.{ℕ, ◌+◌, ◌-◌, Bool, true, false, List, [], ◌∷◌, ◌++◌, codes, decimal, drop, map, take}
+use Rattle.std.specs.Prelude.{ℕ, ◌+◌, ◌-◌, Bool, true, false, List, [], ◌∷◌, ◌++◌, codes, decimal, map}
 use Rattle.ld_num.specs.Text.{dec_text}
 use Rattle.ld_names.specs.Standing.{Known}
 use Rattle.ld_line.specs.declared.line.Angles.{Angles}
 use Rattle.ld_colour.specs.Table.{Counting}
 use Rattle.ld_entry.specs.declared.entry.Entry.{Entry}
+use Rattle.ld_steps.specs.Parts.{entries_in}
 use Rattle.ld_steps.specs.declared.step.StepPart.{StepPart}
 use Rattle.ld_steps.specs.declared.step.Turn.{Turn}
 use Rattle.ld_report.specs.Entries.{entries_text}
@@ -29,10 +30,6 @@ view_words (turn ∷ turns) = map turn_text (turn ∷ turns)
 -- a step by its number, from 1, and how many entries it adds
 abbrev pub step_heading : ℕ → StepPart → List (List ℕ)
 step_heading number step = codes "step" ∷ decimal number ∷ codes "entries" ∷ decimal (step.end - step.first) ∷ codes "view" ∷ view_words step.view
-
--- the entries that a step adds, as far as there are any in its range
-abbrev pub entries_in : List Entry → StepPart → List Entry
-entries_in entries step = take (step.end - step.first) (drop step.first entries)
 
 abbrev pub step_text : Known → Counting → List Entry → ℕ → StepPart → List ℕ
 step_text known table entries number step = line_text (step_heading number step) ++ entries_text known table (entries_in entries step)

@@ -1,9 +1,10 @@
 ghost use Rattle.std.specs.Prelude.{◌≡◌, ◌++◌, ◌-◌, codes, OnErr, OnOk};
 ghost use Rattle.std.specs.List.{flat_map};
 ghost use Rattle.ld_colour.specs.Table.{counting};
+ghost use Rattle.ld_steps.specs.Parts.{entries_in};
 ghost use Rattle.ld_report.specs.Extending.{Extends};
 ghost use Rattle.ld_report.specs.Pieces.{line_text};
-ghost use Rattle.ld_report.specs.Steps.{entries_in, step_heading, steps_text, turn_text, turn_word, view_words};
+ghost use Rattle.ld_report.specs.Steps.{step_heading, steps_text, turn_text, turn_word, view_words};
 
 use crate::entry::append_entries;
 use crate::pieces::{print_number, print_point};

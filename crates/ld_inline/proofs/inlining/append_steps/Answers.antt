@@ -1,7 +1,8 @@
 use Rattle.std.proofs.Common.{◌≡◌, ◌++◌, ◌∷◌, [], length, rules, ap, ◌∙◌, subst}
 use Rattle.ld_colour.specs.Table.{counting}
+use Rattle.ld_steps.specs.Parts.{entries_in}
 use Rattle.ld_inline.specs.Inside.Shown.{IsShownStep}
-use Rattle.ld_inline.specs.Text.{entries_in, entries_lines, lines_text, step_rotation, stepped_words}
+use Rattle.ld_inline.specs.Text.{entries_lines, lines_text, step_rotation, stepped_words}
 use Rattle.ld_inline.proofs.Texts.{shown_more, steps_more, within_more}
 use Rattle.ld_inline.proofs.inlining.append_steps.Goals as goal
 
