@@ -3,16 +3,12 @@ use Rattle.std.proofs.Common.{◌≡◌, ◌&&◌, ℕ, true, List, [], ◌∷�
 use Rattle.std.specs.Prelude.{IfSome, is_some}
 use Rattle.std.specs.List.{list_all}
 use Rattle.std.proofs.lemmas.List.{append-nil}
-use Rattle.ld_line.specs.Block.{block_line_of}
-use Rattle.ld_line.specs.Word.{is_one_line}
-use Rattle.ld_line.specs.declared.line.BlockLine.{BlockLine}
-use Rattle.ld_line.specs.declared.line.BlockLine.TheVariants.{File, NoFile, Data, Other}
-use Rattle.ld_mpd.specs.Blocks.{are_inside, is_other as is_mpd_other}
+use Rattle.ld_mpd.specs.Blocks.{are_inside}
 use Rattle.ld_io.specs.Shelf.{Files}
 use Rattle.ld_names.specs.Finding.{LearningStays}
 use Rattle.ld_names.specs.Standing.{Known, Map, Text, known_map, standing}
 use Rattle.ld_names.specs.declared.file.FileId.{FileId}
-use Rattle.ld_texts.specs.Editing.{AreKnown, edited, edited_map, files_in, is_block_text, is_other, refusal_of}
+use Rattle.ld_texts.specs.Editing.{AreKnown, edited, edited_map, files_in, is_block_text, refusal_of}
 use Rattle.ld_texts.specs.EditLaws.{EditLaws, KeepsBlockLines, are_of_block_lines, is_of_block_lines}
 use Rattle.ld_texts.specs.Known.{id_of, lines_at}
 use Rattle.ld_texts.specs.Laws.{NumbersAgree}
@@ -71,16 +67,9 @@ learns-nothing wants old new none (entry ∷ entries, grown, are) = absurd (cc)
 
 -- ---- lines that a block may hold
 
-other-is : (line : BlockLine) → is_mpd_other line ≡ is_other line
-other-is File = refl
-other-is NoFile = refl
-other-is Data = refl
-other-is Other = refl
-
 lines-clean : (lines : List (List ℕ)) → are_inside lines ≡ list_all is_block_text lines
 lines-clean [] = refl
-lines-clean (line ∷ lines) =
-    ap (λ b. (is_one_line line && b) && are_inside lines) (other-is (block_line_of line)) ∙ ap (λ b. is_block_text line && b) (lines-clean lines)
+lines-clean (line ∷ lines) = ap (λ b. is_block_text line && b) (lines-clean lines)
 
 text-clean : (text : Text) → is_clean text ≡ is_of_block_lines text
 text-clean None = refl

@@ -5,11 +5,11 @@ use Rattle.std.proofs.lemmas.Bool.{and_parts, and_from, false≢true}
 use Rattle.std.proofs.lemmas.List.Folds.{list_all-append}
 use Rattle.ld_line.specs.declared.line.BlockLine.{BlockLine}
 use Rattle.ld_line.specs.declared.line.BlockLine.TheVariants.{File, NoFile, Data, Other}
-use Rattle.ld_line.specs.Block.{block_line_of}
+use Rattle.ld_line.specs.Block.{block_line_of, is_other}
 use Rattle.ld_line.specs.Cut.{lines_of}
 use Rattle.ld_line.specs.Word.{LinesOfTexts, is_one_line}
 use Rattle.ld_mpd.specs.declared.block.Block.{Block}
-use Rattle.ld_mpd.specs.Blocks.{are_inside, begun_blocks, behind_file, block_at, blocks_in, blocks_of, firsts, inside, is_inside, is_later, is_other, opening, text_blocks, texts_in}
+use Rattle.ld_mpd.specs.Blocks.{are_inside, begun_blocks, behind_file, block_at, blocks_in, blocks_of, firsts, inside, is_inside, is_later, opening, text_blocks, texts_in}
 use Rattle.ld_mpd.specs.Laws.{LinesStandInside, TextLinesStandInside}
 
 abbrev pub stands_inside : Block → Bool

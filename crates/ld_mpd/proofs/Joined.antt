@@ -7,12 +7,12 @@ use Rattle.std.proofs.lemmas.List.Folds.{list_all-append}
 use Rattle.ld_names.specs.Normal.{AreNames, is_control, normal_of}
 use Rattle.ld_line.specs.declared.line.BlockLine.{BlockLine}
 use Rattle.ld_line.specs.declared.line.BlockLine.TheVariants.{File, NoFile, Data, Other}
-use Rattle.ld_line.specs.Block.{block_line_of}
+use Rattle.ld_line.specs.Block.{block_line_of, is_other}
 use Rattle.ld_line.specs.Cut.{lines_of, without_mark}
 use Rattle.ld_line.specs.Field.{after_field, after_fields, fields}
 use Rattle.ld_line.specs.Word.{LinesOfTexts, ended, is_one_line}
 use Rattle.ld_mpd.specs.declared.block.Block.{Block}
-use Rattle.ld_mpd.specs.Blocks.{are_inside, begun_blocks, behind_file, block, block_at, block_name, blocks_in, blocks_of, firsts, has_text, inside, is_file, is_inside, is_later, is_other, name_or, opening}
+use Rattle.ld_mpd.specs.Blocks.{are_inside, begun_blocks, behind_file, block, block_at, block_name, blocks_in, blocks_of, firsts, has_text, inside, is_file, is_inside, is_later, name_or, opening}
 use Rattle.ld_mpd.specs.Joining.{block_lines, first_bad, head_word, is_bad, join_by, join_of, joined}
 use Rattle.ld_mpd.specs.Laws.{AreNamed, SplitOfJoined}
 use Rattle.ld_mpd.proofs.Inside.{begun_inside}

@@ -6,19 +6,13 @@ use Rattle.ld_names.specs.Normal.{normal_of}
 use Rattle.ld_names.specs.declared.name.NameError.{NameError}
 use Rattle.ld_line.specs.declared.line.BlockLine.{BlockLine}
 use Rattle.ld_line.specs.declared.line.BlockLine.TheVariants.{File, NoFile, Data, Other}
-use Rattle.ld_line.specs.Block.{block_line_of}
+use Rattle.ld_line.specs.Block.{block_line_of, is_other}
 use Rattle.ld_line.specs.Cut.{lines_of}
 use Rattle.ld_line.specs.Field.{after_fields}
 use Rattle.ld_line.specs.Word.{is_one_line}
 use Rattle.ld_mpd.specs.declared.block.Block.{Block}
 
 -- ---- one block
-
-abbrev pub is_other : BlockLine → Bool
-is_other File = false
-is_other NoFile = false
-is_other Data = false
-is_other Other = true
 
 -- a line that neither begins nor ends a block
 abbrev pub is_inside : List ℕ → Bool

@@ -4,10 +4,8 @@ use Rattle.std.specs.Prelude.{◌+◌, ◌-◌, ◌==◌, ◌&&◌, ◌||◌, �
 use Rattle.std.specs.List.{insert, remove, list_any}
 use Rattle.std.specs.Map.{set_value}
 use Rattle.std.specs.Option.{is_none, is_some, option_or}
-use Rattle.ld_line.specs.Block.{block_line_of}
+use Rattle.ld_line.specs.Block.{block_line_of, is_other}
 use Rattle.ld_line.specs.Word.{is_one_line}
-use Rattle.ld_line.specs.declared.line.BlockLine.{BlockLine}
-use Rattle.ld_line.specs.declared.line.BlockLine.TheVariants.{File, NoFile, Data, Other}
 use Rattle.ld_names.specs.declared.file.FileId.{FileId}
 use Rattle.ld_names.specs.Standing.{Known, Map, Text, same_file}
 use Rattle.ld_texts.specs.Known.{id_of, lines_at, weight_of}
@@ -77,12 +75,6 @@ abbrev pub edited_map : Map → Edit → Map
 edited_map texts edit = map_with_texts texts (written_by edit (text_in texts))
 
 -- ---- why an edit is refused
-
-abbrev pub is_other : BlockLine → Bool
-is_other File = false
-is_other NoFile = false
-is_other Data = false
-is_other Other = true
 
 -- a line that a block may hold: no line feed stands in it, and it neither begins nor ends a block
 abbrev pub is_block_text : List ℕ → Bool
