@@ -1,5 +1,5 @@
 -- Digits, and the numbers that they write.
-use Rattle.std.proofs.Common.{◌≡◌, ℕ, zero, suc, ◌+◌, ◌-◌, ◌*◌, ◌^◌, ◌<◌, ◌≤◌, min, true, false, cond, ◌&&◌, nat_eq, List, [], ◌∷◌, ◌++◌, length, get_or, take, drop, arith, refl, sym, ◌∙◌, ap, subst, ⊎_elim}
+use Rattle.std.proofs.Common.{◌≡◌, ℕ, zero, suc, ◌+◌, ◌-◌, ◌*◌, ◌^◌, ◌<◌, ◌≤◌, min, true, false, cond, ◌&&◌, nat_eq, List, [], ◌∷◌, ◌++◌, length, get_or, take, drop, arith, refl, sym, ◌∙◌, ap}
 use Rattle.std.specs.Char.{digit_value, is_ascii_digit}
 use Rattle.std.specs.Int.{IsInRange}
 use Rattle.std.specs.List.{prefix_len, take_while}
@@ -7,7 +7,7 @@ use Rattle.std.specs.Str.{all_ascii_digits}
 use Rattle.std.specs.Str.Parse.{AllDigits, digits_value, digits_value_after}
 use Rattle.ld_num.specs.Number.{is_power}
 use Rattle.std.proofs.Math.Nat.{pow-suc}
-use Rattle.std.proofs.lemmas.Bool.{cases_lt, cond_both, and_parts}
+use Rattle.std.proofs.lemmas.Bool.{cond_both, and_parts}
 use Rattle.std.proofs.lemmas.Bool.Decides.{nat_tests}
 use Rattle.std.proofs.lemmas.List.{take_more}
 use Rattle.std.proofs.lemmas.List.Sums.{take_while-cons}
@@ -73,22 +73,6 @@ value-split n (d ∷ ds) =
     let alone = value-split (0 * 10 + digit_value d) ds in rw (pow-suc 10 (length ds)) (omega (arith, here, alone))
 
 -- ---- sums that stop growing at c
-
-pub digits_more : (xs : List ℕ) (i : ℕ) → ((k : ℕ) → k < i → is_ascii_digit (get_or xs k 0) ≡ true) → is_ascii_digit (get_or xs i 0) ≡ true → (k : ℕ) → k < i + 1 → is_ascii_digit (get_or xs k 0) ≡ true
-digits_more xs i before here k h =
-    ⊎_elim (λ less. before k less) (λ more. let e : i ≡ k = omega arith in subst (λ j. is_ascii_digit (get_or xs j 0) ≡ true) e here) (cases_lt k i)
-
-pub capped_one : (n c s i : ℕ) (ds : List ℕ) → is_ascii_digit (get_or ds i 0) ≡ true → i < length ds → s ≡ min (digits_value_after 10 n (take i ds)) c → min (s * 10 + (get_or ds i 0 - 48)) c ≡ min (digits_value_after 10 n (take (i + 1) ds)) c
-capped_one n c s i ds digit h e =
-    let in_range : IsInRange 48 57 (get_or ds i 0) = grind (arith, nat_tests) in
-    let d = digit_value_digit (get_or ds i 0) in_range in
-    rw (take_more ds i 0 h, value-append n (take i ds) (get_or ds i 0 ∷ [])) (omega arith)
-
--- the same where the number is far below the cap
-pub small_one : (n s i : ℕ) (ds : List ℕ) → is_ascii_digit (get_or ds i 0) ≡ true → i < length ds → s ≤ 2000000000 → s ≡ min (digits_value_after 10 n (take i ds)) 1000000000001 → s * 10 + (get_or ds i 0 - 48) ≡ min (digits_value_after 10 n (take (i + 1) ds)) 1000000000001
-small_one n s i ds digit h small e =
-    let in_range : IsInRange 48 57 (get_or ds i 0) = grind (arith, nat_tests) in
-    let capped = capped_one n 1000000000001 s i ds digit h e in omega arith
 
 pub capped_more : (n c s i : ℕ) (ds : List ℕ) → AllDigits 10 ds → i < length ds → s ≡ min (digits_value_after 10 n (take i ds)) c → min (s * 10 + (get_or ds i 0 - 48)) c ≡ min (digits_value_after 10 n (take (i + 1) ds)) c
 capped_more n c s i ds digits h e =

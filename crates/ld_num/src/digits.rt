@@ -1,8 +1,9 @@
 // Digits, and the numbers that they write.
-ghost use Rattle.std.specs.Prelude.{◌≡◌, ◌^◌, ◌+◌, ◌*◌, ◌<◌, ◌≤◌, length, min, take, IfSome, nat_le, slice_index, if◌then◌else◌};
+ghost use Rattle.std.specs.Prelude.{◌≡◌, ◌^◌, ◌+◌, ◌*◌, ◌<◌, ◌≤◌, length, min, nat_le, slice_index, if◌then◌else◌};
 ghost use Rattle.std.specs.Char.{is_ascii_digit};
 ghost use Rattle.std.specs.List.{prefix_len};
 ghost use Rattle.std.specs.Str.Parse.{AllDigits, digits_value_after};
+ghost use Rattle.ld_num.specs.Front.{IsLed};
 
 // The greatest size in millionths.
 pub(crate) const MAX_SIZE: u64 = 1_000_000_000_000;
@@ -23,28 +24,28 @@ pub(crate) fn digit_count(text: &[u8]) -> usize
     text.len()
 }
 
-// Numbers up to here get one more digit at the front of a text.
-const MOST_FRONT: u64 = 2_000_000_000;
-
-// The number that the digits at the front write when they follow those of `start`, and how many they are. `None` for
-// some great numbers.
-pub(crate) fn front_number(start: u64, text: &[u8]) -> Option<(u64, usize)>
-    requires { start ≤ TOO_LARGE }
-    ensures number { IfSome result (λ front. front.0 ≡ min (digits_value_after 10 start (take front.1 text.now)) TOO_LARGE) }
-    ensures count { IfSome result (λ front. front.1 ≡ prefix_len is_ascii_digit text.now) }
-    ensures within { IfSome result (λ front. front.1 ≤ length text.now) }
+// The number that digits at the front write when they follow those of `start`, and what stands behind them. At most so
+// many digits are taken, so that no sum has to be capped.
+#[inline(always)]
+pub(crate) fn leading_number(start: u64, most: usize, text: &[u8]) -> (u64, &[u8])
+    requires start { start < 10 ^ 7 }
+    requires most { most ≤ 7 }
+    ensures led { IsLed text.now start result.0 result.1.now most }
+    ensures small { result.0 < (start + 1) * 10 ^ most }
 {
     let mut number = start;
-    for (index, byte) in text.iter().enumerate() {
-        if !byte.is_ascii_digit() {
-            return Some((number, index));
+    let mut rest = text;
+    for taken in 0..most {
+        let Some((first, more)) = rest.split_first() else {
+            return (number, rest);
+        };
+        if !first.is_ascii_digit() {
+            return (number, rest);
         }
-        if number > MOST_FRONT {
-            return None;
-        }
-        number = number * 10 + u64::from(*byte - b'0');
+        number = number * 10 + u64::from(*first - b'0');
+        rest = more;
     }
-    Some((number, text.len()))
+    (number, rest)
 }
 
 // The number that the digits write when they follow those of `start`.
@@ -70,16 +71,7 @@ pub(crate) fn with_zeros(number: u64, count: usize) -> u64
     number.saturating_mul(power).min(TOO_LARGE)
 }
 
-// The same for a few zeros.
-pub(crate) fn with_few_zeros(number: u64, count: usize) -> u64
-    requires number { number ≤ TOO_LARGE }
-    requires few { count ≤ 6 }
-    ensures { result ≡ min (number * 10 ^ count) TOO_LARGE }
-{
-    (number * tens(count)).min(TOO_LARGE)
-}
-
-fn tens(count: usize) -> u64
+pub(crate) fn tens(count: usize) -> u64
     requires { count ≤ 6 }
     ensures power { result ≡ 10 ^ count }
     ensures small { result ≤ 10 ^ 6 }

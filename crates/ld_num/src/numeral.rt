@@ -7,28 +7,29 @@ ghost use Rattle.ld_num.specs.Front.{IsFront};
 ghost use Rattle.ld_num.specs.Number.{begins_with_minus, is_power, millionths_of, numeral_of, powers_of, without_sign};
 ghost use Rattle.ld_num.specs.Scan.{after_digits, after_fraction, leading_digits, leading_fraction, numeral_in};
 
-use crate::digits::{TOO_LARGE, capped, digit_count, front_number, with_few_zeros};
+use crate::digits::{TOO_LARGE, capped, digit_count, leading_number, tens};
 use crate::scale::scaled;
 
-// The size, as of `size_of`, and the length of a numeral that stands first: digits, and a period with one to six digits
-// after it. `None` for other numerals too.
-pub(crate) fn front_size(text: &[u8]) -> Option<(u64, usize)>
-    ensures { IfSome result (λ front. IsFront text.now front.0 front.1) }
+// The size in millionths of a numeral that stands first, and what stands behind it: up to seven digits, and a period
+// with one to six digits after it. `None` for other numerals too.
+#[inline]
+pub(crate) fn front_size(text: &[u8]) -> Option<(u64, &[u8])>
+    ensures { IfSome result (λ front. IsFront text.now front.0 front.1.now) }
 {
-    let (whole, count) = front_number(0, text)?;
-    let (_, rest) = text.split_at(count);
-    let Some(fraction) = after_period(rest) else {
-        return if count == 0 {
+    let (whole, behind) = leading_number(0, 7, text);
+    let Some(fraction) = after_period(behind) else {
+        return if behind.len() == text.len() {
             None
         } else {
-            Some((with_few_zeros(whole, 6), count))
+            Some((whole * 1_000_000, behind))
         };
     };
-    let (number, places) = front_number(whole, fraction)?;
-    if places == 0 || places > 6 {
+    let (number, rest) = leading_number(whole, 6, fraction);
+    let places = fraction.len() - rest.len();
+    if places == 0 {
         return None;
     }
-    Some((with_few_zeros(number, 6 - places), count + 1 + places))
+    Some((number * tens(6 - places), rest))
 }
 
 fn after_period(text: &[u8]) -> Option<&[u8]>

@@ -61,11 +61,10 @@ fn split_plain(text: &[u8]) -> Option<(Dec, &[u8])>
     ensures { IfSome result (λ cut. IsFrontNumber text.now cut.0 cut.1.now) }
 {
     let (is_negative, unsigned) = split_minus(text);
-    let (size, count) = front_size(unsigned)?;
+    let (size, rest) = front_size(unsigned)?;
     let Ok(number) = in_range(is_negative, size) else {
         return None;
     };
-    let (_, rest) = unsigned.split_at(count);
     if !is_field_end(rest) {
         return None;
     }

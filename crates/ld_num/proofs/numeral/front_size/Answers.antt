@@ -1,15 +1,15 @@
-use Rattle.std.proofs.Common.{◌≡◌, ◌∷◌, drop, arith, rules}
-use Rattle.ld_num.proofs.Fronts.{front_pointed, front_whole}
+use Rattle.std.proofs.Common.{◌≡◌, ◌∷◌, arith, refl, rules}
+use Rattle.ld_num.proofs.Fronts.{front_pointed, front_whole, led_length}
 use Rattle.ld_num.proofs.numeral.front_size.Goals as goal
 
-pub returns-else-count-eq0 : goal.returns-else-count-eq0
-returns-else-count-eq0 c =
-    let front = c.in_ok-whole in
-    front_whole c.args.text.now front.count front.whole c.with_few_zeros.result (omega (arith, c.if-count-eq0.false)) front.ensures.count front.ensures.number c.with_few_zeros.ensures
+pub returns-else-behind-text : goal.returns-else-behind-text
+returns-else-behind-text c =
+    let whole = c.leading_number-whole.ensures.led in
+    front_whole _ _ _ whole (omega (arith, c.if-behind-text.false, led_length _ _ _ _ _ whole))
 
 pub returns : goal.returns
 returns c =
-    let front = c.in_ok-whole in
-    let behind = c.in_ok-number in
-    let rest : drop front.count c.args.text.now ≡ 46 ∷ c.in-Some.fraction.now = search rules in
-    front_pointed c.args.text.now c.in-Some.fraction.now front.count behind.places front.whole behind.number c.with_few_zeros-2.result front.ensures.count front.ensures.number rest behind.ensures.count behind.ensures.number (omega (arith, c.if-places-eq0.false)) (omega (arith, c.if-places-gt6.false)) c.with_few_zeros-2.ensures
+    let whole = c.leading_number-whole in
+    let number = c.leading_number-number in
+    let period : whole.result.1.now ≡ 46 ∷ c.in-Some.fraction.now = search rules in
+    front_pointed _ _ _ _ _ _ _ _ whole.ensures.led period number.ensures.led refl (omega (arith, c.if-places-eq0.false)) c.tens.ensures.power

@@ -9,7 +9,7 @@ returns c =
     let sign = c.split_minus-is_negative.result.0 in
     let digits = c.split_minus-is_negative.result.1.now in
     let size = c.in_ok-size.size in
-    let count = c.in_ok-size.count in
-    let front : IsFront digits size count = search rules in
+    let rest = c.in_ok-size.rest.now in
+    let front : IsFront digits size rest = search rules in
     let range : in_range sign size ≡ Ok c.in-Ok.number = search rules in
-    front_number_is c.args.text.now digits _ size count sign c.in-Ok.number c.split_minus-is_negative.ensures front range c.split_at.ensures.back (search rules)
+    front_number_is c.args.text.now digits rest size sign c.in-Ok.number c.split_minus-is_negative.ensures front range (search rules)
