@@ -1,11 +1,9 @@
 -- Six hexadecimal digits write red, green and blue.
 use Rattle.std.proofs.Common.{◌≡◌, ◌==◌, ◌&&◌, ◌<◌, ◌^◌, ℕ, true, List, [], ◌∷◌, length, take, drop, Option, Some, None, subst, nat_lt}
-use Rattle.std.specs.Prelude.{All, IfSome, bytes_eq, codes, ⊤}
+use Rattle.std.specs.Prelude.{All, IfSome, bytes_eq, codes, nat_eq, ⊤}
 use Rattle.std.specs.Char.{digit_value, is_digit}
 use Rattle.std.specs.List.{list_all}
 use Rattle.std.specs.Map.{values_of}
-use Rattle.std.specs.BTreeMap.{is_at}
-use Rattle.std.specs.Ordering.{nat_cmp}
 use Rattle.std.specs.Str.Parse.{AllDigits, digits_value}
 use Rattle.std.proofs.lemmas.Bool.{and_parts, cond_both, eqb-true, ltb-true}
 use Rattle.std.proofs.lemmas.Int.Digits.{digits_value-lt}
@@ -99,7 +97,7 @@ value_by-rgb (Some definition) rgb = rgb.0
 
 module _ (table : Table) (all : All HasRgb (values_of table)) where
   value-rgb : (code : ℕ) → IfSome (value_in (counting table) code) IsRgb
-  value-rgb code = value_by-rgb (counting table code) (IfSome-lookup_from_All HasRgb (is_at (nat_cmp code)) table all)
+  value-rgb code = value_by-rgb (counting table code) (IfSome-lookup_from_All HasRgb (nat_eq code) table all)
 
   edge_by-found : (edge : DefinedEdge) → IsRgbEdge edge → IfSome (table_edge (counting table) edge) IsRgb
   edge_by-found (Value value) rgb = rgb
@@ -114,5 +112,5 @@ module _ (table : Table) (all : All HasRgb (values_of table)) where
   values Main lawful = value-rgb 16
   values Edge lawful = value-rgb 24
   values (Code code) lawful = value-rgb code
-  values (EdgeOf code) lawful = edge_of-rgb (counting table code) (IfSome-lookup_from_All HasRgb (is_at (nat_cmp code)) table all)
+  values (EdgeOf code) lawful = edge_of-rgb (counting table code) (IfSome-lookup_from_All HasRgb (nat_eq code) table all)
   values (Direct value) lawful = ltb-true value (2 ^ 24) lawful

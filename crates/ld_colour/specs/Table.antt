@@ -1,9 +1,7 @@
 -- Tables of colours: Colour Definition Language Extension. That the last definition of a code counts, and that an EDGE
 -- code is looked up in the whole file, is this project's own.
-use Rattle.std.specs.Prelude.{◌≡◌, ◌+◌, ◌==◌, ℕ, true, IfSome, List, [], ◌∷◌, map, Option, Some, None, IsSome, Result, Ok, Err, if◌then◌else◌}
-use Rattle.std.specs.BTreeMap.{is_at}
+use Rattle.std.specs.Prelude.{◌≡◌, ◌+◌, ◌==◌, ℕ, true, nat_eq, IfSome, List, [], ◌∷◌, map, Option, Some, None, IsSome, Result, Ok, Err, if◌then◌else◌}
 use Rattle.std.specs.Map.{lookup}
-use Rattle.std.specs.Ordering.{nat_cmp}
 use Rattle.ld_line.specs.Cut.{lines_of}
 use Rattle.ld_colour.specs.declared.colour.Colour.{Colour}
 use Rattle.ld_colour.specs.declared.colour.Colour.TheVariants.{Main, Edge, Code, EdgeOf, Direct}
@@ -24,7 +22,7 @@ abbrev pub Counting : Type 0
 Counting = ℕ → Option Definition
 
 abbrev pub counting : Table → Counting
-counting table code = lookup (is_at (nat_cmp code)) table
+counting table code = lookup (nat_eq code) table
 
 -- the first that is there
 abbrev pub or_else : Option Definition → Option Definition → Option Definition

@@ -7,7 +7,7 @@ use crate::colour::Colour;
 use crate::definition::{ColourLine, DefinedEdge, Definition, colour_line};
 use ld_line::{split_line, unmarked};
 use std::alloc::{AllocError, Global};
-use std::collections::BTreeMap;
+use std::collections::HashMap;
 use std::marker::Model;
 
 /// Why a colour file gives no table.
@@ -33,7 +33,7 @@ impl From<AllocError> for TableError {
 /// code with the definition that counts for it.
 #[derive(Debug, Drop)]
 pub struct Table {
-    definitions: BTreeMap<u32, Definition>,
+    definitions: HashMap<u32, Definition>,
 }
 
 impl Model for Table {
@@ -55,7 +55,7 @@ impl Table {
         ensures { counting result ≡ (λ _. None) }
     {
         Table {
-            definitions: BTreeMap::new(alloc),
+            definitions: HashMap::new(alloc),
         }
     }
 

@@ -1,7 +1,7 @@
-use Rattle.std.proofs.Common.{◌≡◌, ◌∙◌, ℕ, List, sym, subst, map, nat_cmp}
-use Rattle.std.specs.Prelude.{All}
+use Rattle.std.proofs.Common.{◌≡◌, ◌∙◌, ℕ, List, sym, subst, map}
+use Rattle.std.specs.Prelude.{All, nat_eq}
 use Rattle.std.specs.Map.{values_of}
-use Rattle.std.proofs.lemmas.Map.Views.{All-values-insert_entry}
+use Rattle.std.proofs.lemmas.Map.Views.{All-values-PutsEntry}
 use Rattle.ld_line.specs.Cut.{lines_from}
 use Rattle.ld_colour.specs.declared.definition.ColourLine.TheVariants.{Defines}
 use Rattle.ld_colour.specs.declared.definition.Definition.{Definition}
@@ -29,6 +29,6 @@ invariant_of-self c =
     let defines : colour_line c.args.line.now ≡ Defines c.in-Defines.code c.in-Defines.definition = sym c.colour_line.ensures ∙ c.in-Defines.is in
     let rgb : HasRgb c.in-Defines.definition = subst DefinesRgb defines (line-rgb c.args.line.now) in
     elim c.match-insert.branch [
-      | in-Ok w ↦ subst AllRgb (sym (w.in-Ok.ensures.entries)) (All-values-insert_entry nat_cmp c.in-Defines.code c.in-Defines.definition HasRgb c.self.inside.definitions.entries c.self.invariant rgb)
+      | in-Ok w ↦ All-values-PutsEntry nat_eq HasRgb c.self.inside.definitions c.insert.new.self c.in-Defines.code c.in-Defines.definition _ w.in-Ok.ensures.entries c.self.invariant rgb
       | in-Err w ↦ subst AllRgb (sym (w.in-Err.ensures.err)) c.self.invariant
     ]
