@@ -1,8 +1,9 @@
 -- Steps that are marked line by line.
-use Rattle.std.proofs.Common.{◌≡◌, ◌≤◌, ◌<◌, ◌+◌, ◌^◌, ◌||◌, ◌⊎◌, inl, inr, ℕ, zero, suc, Bool, true, false, cond, List, [], ◌∷◌, ◌++◌, length, take, drop, Some, refl, ap, sym, ◌∙◌, length-take, arith}
+use Rattle.std.proofs.Common.{◌≡◌, ◌≤◌, ◌<◌, ◌+◌, ◌^◌, ◌||◌, ◌&&◌, ◌==◌, not, ◌⊎◌, inl, inr, ℕ, zero, suc, Bool, true, false, cond, List, [], ◌∷◌, ◌++◌, length, take, drop, Some, refl, ap, sym, ◌∙◌, length-take, arith}
 use Rattle.std.specs.Prelude.{slice_get}
 use Rattle.std.specs.List.{fold, list_any}
-use Rattle.std.proofs.lemmas.List.{append-nil, drop-append-le}
+use Rattle.std.proofs.lemmas.Bool.{eqb-true}
+use Rattle.std.proofs.lemmas.List.{append-nil, drop-append-le, nil_from_length}
 use Rattle.std.proofs.lemmas.List.Folds.{list_any-append}
 use Rattle.std.proofs.lemmas.List.Sums.{fold-append}
 use Rattle.std.proofs.lemmas.Option.{slice_get_within}
@@ -106,20 +107,20 @@ abbrev mark : ℕ → ℕ → List Turn → StepMark
 mark before last view = record { first_line = before + 1; last_line = last; view = view }
 
 -- a line that ends a step
-pub step-passed : (line : Line) (old mid new : Marking) → is_step_line line ≡ true → mid.passed ≡ old.passed + 1 → mid.marks.items ≡ old.marks.items → mid.ended ≡ old.ended → mid.view.items ≡ viewed old.view.items line → EndsStep mid new → MarksLine line old new
-step-passed line old mid new on passed marks ended view ends lines at marked =
+pub step-passed : (line : Line) (old mid new : Marking) (view : List Turn) → is_step_line line ≡ true → mid.passed ≡ old.passed + 1 → mid.marks.items ≡ old.marks.items → mid.ended ≡ old.ended → view ≡ viewed old.view.items line → EndsStep view mid new → MarksLine line old new
+step-passed line old mid new view on passed marks ended turned ends lines at marked =
     let before = step_lines 0 (take old.passed lines) in
     let count : new.passed ≡ old.passed + 1 = ends.passed ∙ passed in
     let last : new.ended ≡ old.passed + 1 = ends.ended ∙ passed in
     let numbers : step_lines 0 (take new.passed lines) ≡ before ++ (old.passed + 1) ∷ [] = ap (λ n. step_lines 0 (take n lines)) count ∙ lines-on lines line old.passed at on in
-    let seen : mid.view.items ≡ view_behind lines (old.passed + 1) = view ∙ ap (λ v. viewed v line) marked.view ∙ sym (view-more lines line old.passed at) in
+    let seen : view ≡ view_behind lines (old.passed + 1) = turned ∙ ap (λ v. viewed v line) marked.view ∙ sym (view-more lines line old.passed at) in
     record {
-      marks = ends.marks ∙ ap (λ ms. ms ++ mark mid.ended mid.passed mid.view.items ∷ []) (marks ∙ marked.marks)
-          ∙ ap (λ n. steps_between lines 0 before ++ mark n mid.passed mid.view.items ∷ []) (ended ∙ marked.ended)
-          ∙ ap (λ n. steps_between lines 0 before ++ mark (last_number 0 before) n mid.view.items ∷ []) passed
+      marks = ends.marks ∙ ap (λ ms. ms ++ mark mid.ended mid.passed view ∷ []) (marks ∙ marked.marks)
+          ∙ ap (λ n. steps_between lines 0 before ++ mark n mid.passed view ∷ []) (ended ∙ marked.ended)
+          ∙ ap (λ n. steps_between lines 0 before ++ mark (last_number 0 before) n view ∷ []) passed
           ∙ ap (λ v. steps_between lines 0 before ++ mark (last_number 0 before) (old.passed + 1) v ∷ []) seen
           ∙ sym (ap (steps_between lines 0) numbers ∙ steps_between-more lines 0 before (old.passed + 1));
-      view = ends.view ∙ seen ∙ ap (view_behind lines) (sym count);
+      view = ends.stands ∙ seen ∙ ap (view_behind lines) (sym count);
       ended = last ∙ sym (ap (last_number 0) numbers ∙ last_of-more 0 before (old.passed + 1));
       drawn = ends.drawn ∙ sym (ap (λ n. list_any shows (drop n (take new.passed lines))) (last ∙ sym count) ∙ ap (list_any shows) (drop-taken new.passed lines));
     }
@@ -155,6 +156,20 @@ any-within (suc n) (x ∷ xs) is = let rest : n < length xs = any-within n xs is
 no-steps : (lines : List Line) (before : ℕ) (ends : List ℕ) → steps_between lines before ends ≡ [] → ends ≡ []
 no-steps lines before [] is = refl
 no-steps lines before (end ∷ ends) is = cc
+
+of-not : (b : Bool) → not b ≡ false → b ≡ true
+of-not true is = refl
+of-not false is = cc
+
+-- where the last step is dropped, and where it stands
+pub drops : (drawn : Bool) (marks : List StepMark) → (not drawn && not (length marks == 0)) ≡ true → (drawn ≡ false) × (marks ≡ [] → ⊥)
+drops true marks is = cc
+drops false [] is = cc
+drops false (mark ∷ marks) is = (refl, λ none. cc)
+
+pub keeps : (drawn : Bool) (marks : List StepMark) → (not drawn && not (length marks == 0)) ≡ false → (drawn ≡ true) ⊎ (marks ≡ [])
+keeps true marks is = inl refl
+keeps false marks is = let empty = eqb-true (length marks) 0 (of-not (length marks == 0) is) in inr (nil_from_length marks (omega arith))
 
 -- all lines are passed
 module _ (lines : List Line) (marking : Marking) (marked : IsMarked lines marking) (passed : marking.passed ≡ length lines) where
@@ -199,7 +214,7 @@ module _ (lines : List Line) (marking : Marking) (marked : IsMarked lines markin
       by (end ∷ ends) some is = cc
 
   -- the last step stands
-  pub stands : (new : Marking) → (marking.drawn ≡ true) ⊎ (marking.marks.items ≡ []) → EndsStep marking new → new.marks.items ≡ steps_of lines
+  pub stands : (new : Marking) → (marking.drawn ≡ true) ⊎ (marking.marks.items ≡ []) → EndsStep marking.view.items marking new → new.marks.items ≡ steps_of lines
   unfolding steps_of
   stands new last ends =
       ends.marks ∙ ap (λ ms. ms ++ mark marking.ended marking.passed marking.view.items ∷ []) marks-are

@@ -1,10 +1,11 @@
 ghost use Rattle.std.specs.Prelude.{◌≡◌, ◌+◌, ◌≤◌, ◌<◌, ◌^◌, IfOk, OnOk, length};
 ghost use Rattle.ld_steps.specs.Steps.{shows, steps_of};
-ghost use Rattle.ld_steps.specs.Inside.Marking.{EndsStep, MarksLine};
+ghost use Rattle.ld_steps.specs.View.{rotated};
+ghost use Rattle.ld_steps.specs.Inside.Marking.{EndsStep, MarksLine, drops_last};
 
 use crate::step::{StepMark, Turn};
 use crate::view::rotate;
-use ld_line::Line;
+use ld_line::{Line, RotWord};
 use ld_names::List;
 use std::alloc::{AllocError, Global};
 
@@ -26,7 +27,7 @@ impl Marking {
     // Ends a step at the last line that is passed.
     fn end_step(&mut self) -> Result<(), AllocError>
         requires { self.old.ended + 1 < 2 ^ 32 }
-        ensures { OnOk result (EndsStep self.old self.new) }
+        ensures { OnOk result (EndsStep self.old.view.items self.old self.new) }
     {
         let view = List::from_slice(self.alloc, self.view.as_slice())?;
         self.marks.push(StepMark {
@@ -39,6 +40,23 @@ impl Marking {
         Ok(())
     }
 
+    // A rotation step turns the view of the step that it ends.
+    fn end_rotated(&mut self, word: RotWord) -> Result<(), AllocError>
+        requires { self.old.ended + 1 < 2 ^ 32 }
+        ensures { OnOk result (EndsStep (rotated word self.old.view.items) self.old self.new) }
+    {
+        rotate(&mut self.view, word)?;
+        self.end_step()?;
+        Ok(())
+    }
+
+    // Whether the step that is open is dropped at the end of the text.
+    fn drops_last(&self) -> bool
+        ensures { result ≡ drops_last self.now }
+    {
+        !self.drawn && !self.marks.is_empty()
+    }
+
     fn pass(&mut self, line: &Line) -> Result<(), AllocError>
         requires room { self.old.passed + 1 < 2 ^ 32 }
         requires ended { self.old.ended ≤ self.old.passed }
@@ -49,10 +67,7 @@ impl Marking {
         self.passed += 1;
         match line {
             Line::Step => self.end_step(),
-            Line::Rot(word) => {
-                rotate(&mut self.view, *word)?;
-                self.end_step()
-            }
+            Line::Rot(word) => self.end_rotated(*word),
             _ => {
                 self.drawn |= shows(line);
                 Ok(())
@@ -85,7 +100,7 @@ pub fn steps_of(alloc: Global, lines: &[Line]) -> Result<Vec<StepMark>, AllocErr
     for line in lines {
         marking.pass(line)?;
     }
-    if !marking.drawn && !marking.marks.is_empty() {
+    if marking.drops_last() {
         return Ok(marking.marks);
     }
     marking.end_step()?;

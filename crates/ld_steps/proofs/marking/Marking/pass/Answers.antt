@@ -3,7 +3,7 @@ use Rattle.std.specs.Result.{OnOk}
 use Rattle.ld_steps.proofs.Marked.{line-passed, other-line, step-passed}
 use Rattle.ld_steps.specs.Inside.Marking.{EndsStep}
 use Rattle.ld_steps.specs.Steps.{is_step_line}
-use Rattle.ld_steps.specs.View.{viewed}
+use Rattle.ld_steps.specs.View.{rotated, viewed}
 use Rattle.ld_steps.specs.declared.marking.Marking.{Marking}
 use Rattle.ld_steps.proofs.marking.Marking.pass.Goals as goal
 
@@ -16,13 +16,14 @@ pub returns-in-Step-clause-marks : goal.returns-in-Step-clause-marks
 returns-in-Step-clause-marks c =
     let old = c.args.self.now in
     let mid : Marking = record old { passed = old.passed + 1 } in
-    ended c.end_step.result (λ (ends : EndsStep mid c.end_step.new.self). step-passed c.args.line.now old mid c.end_step.new.self (ap is_step_line c.in-Step.is) refl refl refl (ap (λ line. viewed old.view.items line) (sym c.in-Step.is)) ends) c.end_step.ensures
+    ended c.end_step.result (λ (ends : EndsStep old.view.items mid c.end_step.new.self). step-passed c.args.line.now old mid c.end_step.new.self old.view.items (ap is_step_line c.in-Step.is) refl refl refl (ap (λ line. viewed old.view.items line) (sym c.in-Step.is)) ends) c.end_step.ensures
 
-pub returns-in_ok-rotate-in-Rot-clause-marks : goal.returns-in_ok-rotate-in-Rot-clause-marks
-returns-in_ok-rotate-in-Rot-clause-marks c =
+pub returns-in-Rot-clause-marks : goal.returns-in-Rot-clause-marks
+returns-in-Rot-clause-marks c =
     let old = c.args.self.now in
-    let mid : Marking = record old { passed = old.passed + 1; view = c.rotate.new.view } in
-    ended c.end_step-in-Rot.result (λ (ends : EndsStep mid c.end_step-in-Rot.new.self). step-passed c.args.line.now old mid c.end_step-in-Rot.new.self (ap is_step_line c.in-Rot.is) refl refl refl (c.in_ok-rotate-in-Rot.ensures ∙ ap (λ line. viewed old.view.items line) (sym c.in-Rot.is)) ends) c.end_step-in-Rot.ensures
+    let mid : Marking = record old { passed = old.passed + 1 } in
+    let view = rotated c.in-Rot.word old.view.items in
+    ended c.end_rotated.result (λ (ends : EndsStep view mid c.end_rotated.new.self). step-passed c.args.line.now old mid c.end_rotated.new.self view (ap is_step_line c.in-Rot.is) refl refl refl (ap (λ line. viewed old.view.items line) (sym c.in-Rot.is)) ends) c.end_rotated.ensures
 
 pub returns-in_default : goal.returns-in_default
 returns-in_default c = record {
