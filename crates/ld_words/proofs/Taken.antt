@@ -3,6 +3,7 @@ use Rattle.std.proofs.Common.{◌≡◌, ◌&&◌, ◌∙◌, ℕ, ◌==◌, Boo
 use Rattle.std.specs.Str.{bytes_eq}
 use Rattle.std.proofs.lemmas.Bool.Decides.{Decides-eqb}
 use Rattle.std.proofs.lemmas.Slice.Eq.{bytes_eq-Decides}
+use Rattle.std.proofs.lemmas.Option.{none-some}
 use Rattle.clap.specs.Simple.{Shape, built, is_simple, matches_of}
 use Rattle.clap.specs.Takes.{level_passes, takes}
 use Rattle.clap.specs.Matches.{first_value}
@@ -25,17 +26,17 @@ if_else : {P : Type 0} (b x y : Bool) → cond b x y ≡ true → (b ≡ true �
 if_else true x y e f g = f refl
 if_else false x y e f g = g e
 
-named : (name literal : Word) → bytes_eq name literal ≡ true → Offers top literal → Offers top name
-named name literal e o = subst (Offers top) (sym ((bytes_eq-Decides name literal).0 e)) o
+offers_named : (name literal : Word) → bytes_eq name literal ≡ true → Offers top literal → Offers top name
+offers_named name literal e o = subst (Offers top) (sym ((bytes_eq-Decides name literal).0 e)) o
 
 offers : (name value : Word) → value_fits name value ≡ true → Offers top name
 offers name value fits =
-    if_else (bytes_eq name (codes "--colours")) _ _ fits (λ e. named name _ e (record { option = record { long = codes "colours"; is = refl; apart = refl; found = refl; by_long = refl; itself = refl }; hyphen = refl })) (λ fits1.
-    if_else (bytes_eq name (codes "--main")) _ _ fits1 (λ e. named name _ e (record { option = record { long = codes "main"; is = refl; apart = refl; found = refl; by_long = refl; itself = refl }; hyphen = refl })) (λ fits2.
-    if_else (bytes_eq name (codes "--workers")) _ _ fits2 (λ e. named name _ e (record { option = record { long = codes "workers"; is = refl; apart = refl; found = refl; by_long = refl; itself = refl }; hyphen = refl })) (λ fits3.
-    if_else (bytes_eq name (codes "--max-entries")) _ _ fits3 (λ e. named name _ e (record { option = record { long = codes "max-entries"; is = refl; apart = refl; found = refl; by_long = refl; itself = refl }; hyphen = refl })) (λ fits4.
-    if_else (bytes_eq name (codes "--max-depth")) _ _ fits4 (λ e. named name _ e (record { option = record { long = codes "max-depth"; is = refl; apart = refl; found = refl; by_long = refl; itself = refl }; hyphen = refl })) (λ fits5.
-    if_else (bytes_eq name (codes "--cache")) _ _ fits5 (λ e. named name _ e (record { option = record { long = codes "cache"; is = refl; apart = refl; found = refl; by_long = refl; itself = refl }; hyphen = refl })) (λ no.
+    if_else (bytes_eq name (codes "--colours")) _ _ fits (λ e. offers_named name _ e (record { option = record { long = codes "colours"; is = refl; apart = refl; found = refl; by_long = refl; itself = refl }; hyphen = refl })) (λ fits1.
+    if_else (bytes_eq name (codes "--main")) _ _ fits1 (λ e. offers_named name _ e (record { option = record { long = codes "main"; is = refl; apart = refl; found = refl; by_long = refl; itself = refl }; hyphen = refl })) (λ fits2.
+    if_else (bytes_eq name (codes "--workers")) _ _ fits2 (λ e. offers_named name _ e (record { option = record { long = codes "workers"; is = refl; apart = refl; found = refl; by_long = refl; itself = refl }; hyphen = refl })) (λ fits3.
+    if_else (bytes_eq name (codes "--max-entries")) _ _ fits3 (λ e. offers_named name _ e (record { option = record { long = codes "max-entries"; is = refl; apart = refl; found = refl; by_long = refl; itself = refl }; hyphen = refl })) (λ fits4.
+    if_else (bytes_eq name (codes "--max-depth")) _ _ fits4 (λ e. offers_named name _ e (record { option = record { long = codes "max-depth"; is = refl; apart = refl; found = refl; by_long = refl; itself = refl }; hyphen = refl })) (λ fits5.
+    if_else (bytes_eq name (codes "--cache")) _ _ fits5 (λ e. offers_named name _ e (record { option = record { long = codes "cache"; is = refl; apart = refl; found = refl; by_long = refl; itself = refl }; hyphen = refl })) (λ no.
     absurd (true≢false (sym no))))))))
 
 command_place : HasPlace top.rules (codes "command") 1
@@ -66,9 +67,6 @@ pub record Read (words : List Word) (r : Intent) : Type 0 where
   pub ends : Ends top (walk_from nothing_held) words given
   pub request : intent_from (λ name. value_of name given) ≡ Some r
 
-some≢none : {X : Type 0} (x : X) → None ≡ Some x → ⊥
-some≢none x e = cc
-
 hyphen_is : (x : ℕ) → (x == 45) ≡ true → x ≡ 45
 hyphen_is x e = (Decides-eqb x 45).0 e
 
@@ -88,9 +86,9 @@ apart_three : (c w v : Word) (words : List Word) → Apart ((codes "command", c)
 apart_three c w v words id hyphen there =
     rw (place_apart id (codes "command") hyphen 99 _ refl refl, place_apart id (codes "word") hyphen 119 _ refl refl, place_apart id (codes "second") hyphen 115 _ refl refl) refl
 
-two_words : (c w : Word) (words : List Word) → is_argument c ≡ true → is_argument w ≡ true → are_options words ≡ true
+ends_two : (c w : Word) (words : List Word) → is_argument c ≡ true → is_argument w ≡ true → are_options words ≡ true
     → Ends top (walk_from nothing_held) (c ∷ w ∷ words) ((codes "command", c) ∷ (codes "word", w) ∷ pairs words)
-two_words c w words plain_c plain_w fit =
+ends_two c w words plain_c plain_w fit =
     let known_c : Has top.rules (codes "command") = named_place top.rules (codes "command") 1 command_place in
     let known_w : Has top.rules (codes "word") = named_place top.rules (codes "word") 2 word_place in
     let rest = ends_options top offers ((codes "command", c) ∷ []) (codes "word", w) 3 words known_w refl (apart_two c w words) fit in
@@ -100,9 +98,9 @@ two_words c w words plain_c plain_w fit =
     (place_word top.rules [] (codes "command", c) (codes "word") w 2 word_place plain_w known_c refl)
     (place_passes top [] (codes "command", c) (codes "word") w 2 word_place plain_w known_c refl) rest)
 
-three_words : (c w v : Word) (words : List Word) → is_argument c ≡ true → is_argument w ≡ true → is_argument v ≡ true → are_options words ≡ true
+ends_three : (c w v : Word) (words : List Word) → is_argument c ≡ true → is_argument w ≡ true → is_argument v ≡ true → are_options words ≡ true
     → Ends top (walk_from nothing_held) (c ∷ w ∷ v ∷ words) ((codes "command", c) ∷ (codes "word", w) ∷ (codes "second", v) ∷ pairs words)
-three_words c w v words plain_c plain_w plain_v fit =
+ends_three c w v words plain_c plain_w plain_v fit =
     let known_c : Has top.rules (codes "command") = named_place top.rules (codes "command") 1 command_place in
     let known_w : Has top.rules (codes "word") = named_place top.rules (codes "word") 2 word_place in
     let known_v : Has top.rules (codes "second") = named_place top.rules (codes "second") 3 second_place in
@@ -120,7 +118,7 @@ three_words c w v words plain_c plain_w plain_v fit =
 
 when : {X : Type 0} (b : Bool) (x : Option X) (r : X) → cond b x None ≡ Some r → (b ≡ true) × (x ≡ Some r)
 when true x r e = (refl, e)
-when false x r e = absurd (some≢none r e)
+when false x r e = absurd (none-some r e)
 
 -- no option has the name of a positional word
 no_option : (name : Word) → ((id : Word) → has_hyphen id ≡ true → bytes_eq id name ≡ false) → (words : List Word) → are_options words ≡ true → value_of name (pairs words) ≡ None
@@ -139,7 +137,7 @@ read_two c w words r plain_c plain_w e =
     let p = when (are_options words) _ r e in
     record {
       given = (codes "command", c) ∷ (codes "word", w) ∷ pairs words;
-      ends = two_words c w words plain_c plain_w p.0;
+      ends = ends_two c w words plain_c plain_w p.0;
       request = rw (no_second words p.0) p.1;
     }
 
@@ -153,14 +151,14 @@ read_rest c w (v ∷ words) r plain_c plain_w e = go (is_argument v) refl e
         let p = when (are_options words) _ r f in
         record {
           given = (codes "command", c) ∷ (codes "word", w) ∷ (codes "second", v) ∷ pairs words;
-          ends = three_words c w v words plain_c plain_w is p.0;
+          ends = ends_three c w v words plain_c plain_w is p.0;
           request = p.1;
         }
 
 pub read_words : (words : List Word) (r : Intent) → intent_of words ≡ Some r → Read words r
 unfolding intent_of
-read_words [] r e = absurd (some≢none r e)
-read_words (c ∷ []) r e = absurd (some≢none r e)
+read_words [] r e = absurd (none-some r e)
+read_words (c ∷ []) r e = absurd (none-some r e)
 read_words (c ∷ w ∷ words) r e =
     let p = when (is_argument c && is_argument w) (with_rest c w words) r e in
     let plain = both (is_argument c) (is_argument w) p.0 in

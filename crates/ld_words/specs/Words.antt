@@ -1,5 +1,5 @@
 -- The words of the command line: a command word, its positional words, and options with their values (this project's own).
-use Rattle.std.specs.Prelude.{◌≤◌, ℕ, Bool, false, true, List, [], ◌∷◌, Option, Some, None, ◌==◌, ◌&&◌, not, codes, if◌then◌else◌, nat_le, option_map, option_and_then, unwrap_or, is_some}
+use Rattle.std.specs.Prelude.{◌≤◌, ℕ, Bool, false, true, List, [], ◌∷◌, Option, Some, None, ◌==◌, ◌&&◌, not, codes, if◌then◌else◌, nat_le, option_map, option_and_then, unwrap_or, is_some, ⊤}
 use Rattle.std.specs.List.{list_any}
 use Rattle.std.specs.Str.{bytes_eq}
 use Rattle.ld_line.specs.Colour.{colour_word}
@@ -17,6 +17,22 @@ is_argument (first ∷ word) = not (first == 45)
 
 -- ---- numbers
 
+-- the most workers, entries of an answer, files on a way, entries that are kept, and bricks
+abbrev pub most_workers : ℕ
+most_workers = 16
+
+abbrev pub most_entries : ℕ
+most_entries = 4000000
+
+abbrev pub most_depth : ℕ
+most_depth = 64
+
+abbrev pub most_cache : ℕ
+most_cache = 8000000
+
+abbrev pub most_bricks : ℕ
+most_bricks = 100000
+
 abbrev pub between : ℕ → ℕ → ℕ → Option ℕ
 between low high number = if nat_le low number && nat_le number high then Some number else None
 
@@ -25,16 +41,16 @@ abbrev pub number_in : ℕ → ℕ → Word → Option ℕ
 number_in low high word = option_and_then (between low high) (decimal_number word)
 
 abbrev pub workers_of : Word → Option ℕ
-workers_of = number_in 1 16
+workers_of = number_in 1 most_workers
 
 abbrev pub max_entries_of : Word → Option ℕ
-max_entries_of = number_in 1 4000000
+max_entries_of = number_in 1 most_entries
 
 abbrev pub max_depth_of : Word → Option ℕ
-max_depth_of = number_in 1 64
+max_depth_of = number_in 1 most_depth
 
 abbrev pub cache_of : Word → Option ℕ
-cache_of = number_in 0 8000000
+cache_of = number_in 0 most_cache
 
 -- ---- options
 
@@ -117,17 +133,17 @@ abbrev pub IsBetween : ℕ → ℕ → ℕ → Type 0
 IsBetween low high number = (low ≤ number) × (number ≤ high)
 
 abbrev pub IsBoundedTask : Task → Type 0
-IsBoundedTask (Generate count) = IsBetween 1 100000 count
-IsBoundedTask (Show what file) = Unit {0}
-IsBoundedTask (Replay file script) = Unit {0}
+IsBoundedTask (Generate count) = IsBetween 1 most_bricks count
+IsBoundedTask (Show what file) = ⊤
+IsBoundedTask (Replay file script) = ⊤
 
 -- the numbers of the options and of `gen` are within their bounds
 pub record IsBounded (intent : Intent) : Type 0 where
   pub task : IsBoundedTask intent.task
-  pub workers : IsBetween 1 16 intent.options.workers
-  pub max_entries : IsBetween 1 4000000 intent.options.max_entries
-  pub max_depth : IsBetween 1 64 intent.options.max_depth
-  pub cache : IsBetween 0 8000000 intent.options.cache
+  pub workers : IsBetween 1 most_workers intent.options.workers
+  pub max_entries : IsBetween 1 most_entries intent.options.max_entries
+  pub max_depth : IsBetween 1 most_depth intent.options.max_depth
+  pub cache : IsBetween 0 most_cache intent.options.cache
 
 abbrev pub listing_of : Word → Option Listing
 listing_of word =
@@ -141,7 +157,7 @@ listing_of word =
 -- the commands with one positional word
 abbrev pub one_word : Word → Word → Option Task
 one_word command word =
-    if bytes_eq command (codes "gen") then option_map Generate (number_in 1 100000 word)
+    if bytes_eq command (codes "gen") then option_map Generate (number_in 1 most_bricks word)
     else option_map (λ what. Show what word) (listing_of command)
 
 -- the commands with two
@@ -169,3 +185,7 @@ unfoldable pub intent_of : List Word → Option Intent
 intent_of [] = None
 intent_of (command ∷ []) = None
 intent_of (command ∷ word ∷ rest) = if is_argument command && is_argument word then with_rest command word rest else None
+
+-- what is written where words are outside the grammar
+abbrev pub usage_line : List ℕ
+usage_line = codes "usage: ldraw (faces|steps|parts|inline|check) FILE | replay FILE SCRIPT | gen N\n"

@@ -3,6 +3,10 @@ ghost use Rattle.ld_words.specs.Words.{are_options, contains, intent_of, is_opti
 
 use crate::value::{is_argument, one_word, two_words, value_fits};
 
+/// The line that is written where words are outside the grammar.
+pub const USAGE: &[u8] =
+    b"usage: ldraw (faces|steps|parts|inline|check) FILE | replay FILE SCRIPT | gen N\n";
+
 /// Whether the words (those after the program's name) are in the grammar: a command word, its one or
 /// two positional words, and options of two words each, in any order and none twice.
 #[tactic(auto, unfolding(crate::specs::Words::intent_of))]

@@ -10,7 +10,7 @@ mod request;
 mod tests;
 mod value;
 
-pub use grammar::is_command;
+pub use grammar::{USAGE, is_command};
 pub use listing::Listing;
 pub use read::{given_words, read_request};
 pub use request::{Options, Request, Task};

@@ -3,7 +3,7 @@ ghost use Rattle.clap.specs.Words.{App, app_of, first_value, found_of, kind_of, 
 ghost use Rattle.ld_line.specs.Colour.{colour_word};
 ghost use Rattle.ld_words.specs.Ldraw.{intent_from, ldraw, ldraw_places, option_rule, with_option};
 ghost use Rattle.ld_words.specs.Shown.{intent_shown, options_shown, task_shown};
-ghost use Rattle.ld_words.specs.Words.{Intent, IsBetween, IsBounded, IsBoundedTask, intent_of, number_in, options_from, task_of, value_or};
+ghost use Rattle.ld_words.specs.Words.{Intent, IsBetween, IsBounded, IsBoundedTask, intent_of, most_cache, most_depth, most_entries, most_workers, number_in, options_from, task_of, value_or};
 
 use crate::request::{Options, Request, Task};
 use crate::value::{
@@ -132,10 +132,10 @@ fn task_from<'a>(command: &str, word: &'a str, second: Option<&'a str>) -> Optio
 
 fn options_from<'a>(matches: &ArgMatches<'a>) -> Options<'a>
     ensures values { options_shown result ≡ options_from (first_value (found_of matches.now)) }
-    ensures workers { IsBetween 1 16 result.workers }
-    ensures max_entries { IsBetween 1 4000000 result.max_entries }
-    ensures max_depth { IsBetween 1 64 result.max_depth }
-    ensures cache { IsBetween 0 8000000 result.cache }
+    ensures workers { IsBetween 1 most_workers result.workers }
+    ensures max_entries { IsBetween 1 most_entries result.max_entries }
+    ensures max_depth { IsBetween 1 most_depth result.max_depth }
+    ensures cache { IsBetween 0 most_cache result.cache }
 {
     Options {
         colours: matches.get_str("--colours"),

@@ -167,22 +167,21 @@ fn request_text(alloc: Global, text: &str) -> Result<Option<String>, Fail> {
     Ok(Some(format!(in alloc; "{task}, {options}")?))
 }
 
-#[test]
-fn words_in_the_grammar(rt: HostRuntime) -> Result<(), Fail> {
-    for row in WORDS.lines() {
-        let (text, want) = row.split_once(" => ").ok_or("a row without =>")?;
-        let request = request_text(rt.alloc(), text)?;
-        assert_eq!(rt; request.is_some(), want == "yes", "{text}");
+// Whether the words make this request: any one for `yes`, and none for `no`.
+fn is_asked(alloc: Global, text: &str, want: &str) -> Result<bool, Fail> {
+    match request_text(alloc, text)? {
+        Some(request) => Ok(want == "yes" || request.as_str() == want),
+        None => Ok(want == "no"),
     }
-    Ok(())
 }
 
 #[test]
 fn requests_of_words(rt: HostRuntime) -> Result<(), Fail> {
-    for row in REQUESTS.lines() {
-        let (text, want) = row.split_once(" => ").ok_or("a row without =>")?;
-        let request = request_text(rt.alloc(), text)?.ok_or("no request")?;
-        assert_eq!(rt; request.as_str(), want, "{text}");
+    for rows in [WORDS, REQUESTS] {
+        for row in rows.lines() {
+            let (text, want) = row.split_once(" => ").ok_or("a row without =>")?;
+            assert!(rt; is_asked(rt.alloc(), text, want)?, "{text}");
+        }
     }
     Ok(())
 }

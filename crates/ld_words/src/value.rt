@@ -2,9 +2,9 @@ ghost use Rattle.std.specs.Prelude.{◌≡◌, ◌<◌, ◌^◌, IfSome, is_some
 ghost use Rattle.ld_line.specs.Colour.{colour_word};
 ghost use Rattle.ld_line.specs.Digits.{decimal_number};
 ghost use Rattle.ld_words.specs.Shown.{task_shown};
-ghost use Rattle.ld_words.specs.Words.{IsBetween, IsBoundedTask, between, cache_of, is_argument, listing_of, max_depth_of, max_entries_of, number_in, one_word, two_words, value_fits, workers_of};
+ghost use Rattle.ld_words.specs.Words.{IsBetween, IsBoundedTask, between, cache_of, is_argument, max_depth_of, max_entries_of, number_in, one_word, two_words, value_fits, workers_of};
 
-use crate::listing::Listing;
+use crate::listing::listing_of;
 use crate::request::Task;
 use ld_line::{read_colour, read_number};
 
@@ -61,19 +61,6 @@ pub(crate) fn value_fits(name: &str, value: &str) -> bool
     }
 }
 
-fn listing(word: &str) -> Option<Listing>
-    ensures { result ≡ listing_of word.now }
-{
-    match word {
-        "faces" => Some(Listing::Faces),
-        "steps" => Some(Listing::Steps),
-        "parts" => Some(Listing::Parts),
-        "inline" => Some(Listing::Inline),
-        "check" => Some(Listing::Check),
-        _ => None,
-    }
-}
-
 // What a command with one positional word is to do.
 pub(crate) fn one_word<'a>(command: &str, word: &'a str) -> Option<Task<'a>>
     ensures task { option_map task_shown result ≡ one_word command.now word.entry.now }
@@ -83,7 +70,7 @@ pub(crate) fn one_word<'a>(command: &str, word: &'a str) -> Option<Task<'a>>
         let count = number_in(1, MOST_BRICKS, word)?;
         return Some(Task::Generate(count));
     }
-    let what = listing(command)?;
+    let what = listing_of(command)?;
     Some(Task::Show(what, word))
 }
 
