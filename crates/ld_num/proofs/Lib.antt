@@ -1,6 +1,7 @@
 pub mod Cut
 pub mod Fronts
 pub mod Nearest
+pub mod Pairs
 pub mod Plain
 pub mod Printed
 pub mod Scanned

@@ -1,4 +1,4 @@
-ghost use Rattle.std.specs.Prelude.{◌≡◌, ◌+◌, ◌-◌, ◌^◌, ◌%◌, ◌<◌, ◌≤◌, ◌==◌, ◌++◌, drop, length, if◌then◌else◌, OnOk, OnErr};
+ghost use Rattle.std.specs.Prelude.{◌≡◌, ◌+◌, ◌-◌, ◌^◌, ◌%◌, ◌<◌, ◌≤◌, ◌==◌, ◌++◌, length, if◌then◌else◌, OnOk, OnErr};
 ghost use Rattle.std.specs.List.{suffix_len};
 ghost use Rattle.std.specs.Fmt.{decimal};
 ghost use Rattle.ld_num.specs.Front.{minus_if};
@@ -11,6 +11,13 @@ use itoa::Buffer;
 use std::alloc::AllocError;
 
 const MILLION: u64 = 1_000_000;
+
+// How many bytes are copied at once.
+const COPIED: usize = 16;
+
+// The digits of each number below a hundred.
+static PAIRS: [u8; 200] =
+    *b"00010203040506070809101112131415161718192021222324252627282930313233343536373839404142434445464748495051525354555657585960616263646566676869707172737475767778798081828384858687888990919293949596979899";
 
 /// Appends a number in decimals: `-` where it is negative, the whole part without leading zeros, and, where there is
 /// a fraction, a period and its digits without trailing zeros. Zero is `0`.
@@ -40,20 +47,15 @@ fn print_whole(number: u32, is_negative: bool, into: &mut Vec<u8>) -> Result<(),
 {
     let [h, t, u] = three_digits(number);
     if number >= 100 {
-        into.extend_from_slice(signed(&[b'-', h, t, u], is_negative))
+        let text = [b'-', h, t, u, 0, 0, 0, 0, 0, 0, 0, 0, 0, 0, 0, 0, 0];
+        append(&text, 4, 0, is_negative, into)
     } else if number >= 10 {
-        into.extend_from_slice(signed(&[b'-', t, u], is_negative))
+        let text = [b'-', t, u, 0, 0, 0, 0, 0, 0, 0, 0, 0, 0, 0, 0, 0, 0];
+        append(&text, 3, 0, is_negative, into)
     } else {
-        into.extend_from_slice(signed(&[b'-', u], is_negative))
+        let text = [b'-', u, 0, 0, 0, 0, 0, 0, 0, 0, 0, 0, 0, 0, 0, 0, 0];
+        append(&text, 2, 0, is_negative, into)
     }
-}
-
-// A text with its minus only where the number is negative.
-fn signed(text: &[u8], is_negative: bool) -> &[u8]
-    requires { 0 < length text.now }
-    ensures { result.now ≡ drop (if is_negative then 0 else 1) text.now }
-{
-    if is_negative { text } else { &text[1..] }
 }
 
 // A size below a thousand, whose text has few forms, is appended at once.
@@ -67,14 +69,14 @@ fn print_short(size: u64, is_negative: bool, into: &mut Vec<u8>) -> Result<(), A
     let count = kept(&places);
     let [a, b, c, d, e, f] = places;
     if size >= 100 * MILLION {
-        let text = [b'-', h, t, u, b'.', a, b, c, d, e, f];
-        into.extend_from_slice(window(&text, 4, count, is_negative))
+        let text = [b'-', h, t, u, b'.', a, b, c, d, e, f, 0, 0, 0, 0, 0, 0];
+        append(&text, 4, count, is_negative, into)
     } else if size >= 10 * MILLION {
-        let text = [b'-', t, u, b'.', a, b, c, d, e, f];
-        into.extend_from_slice(window(&text, 3, count, is_negative))
+        let text = [b'-', t, u, b'.', a, b, c, d, e, f, 0, 0, 0, 0, 0, 0, 0];
+        append(&text, 3, count, is_negative, into)
     } else {
-        let text = [b'-', u, b'.', a, b, c, d, e, f];
-        into.extend_from_slice(window(&text, 2, count, is_negative))
+        let text = [b'-', u, b'.', a, b, c, d, e, f, 0, 0, 0, 0, 0, 0, 0, 0];
+        append(&text, 2, count, is_negative, into)
     }
 }
 
@@ -90,26 +92,53 @@ fn print_thousandths(size: u64, is_negative: bool, into: &mut Vec<u8>) -> Result
     let count = kept(&places);
     let [a, b, c] = places;
     if size >= 100 * MILLION {
-        let text = [b'-', h, t, u, b'.', a, b, c];
-        into.extend_from_slice(window(&text, 4, count, is_negative))
+        let text = [b'-', h, t, u, b'.', a, b, c, 0, 0, 0, 0, 0, 0, 0, 0, 0];
+        append(&text, 4, count, is_negative, into)
     } else if size >= 10 * MILLION {
-        let text = [b'-', t, u, b'.', a, b, c];
-        into.extend_from_slice(window(&text, 3, count, is_negative))
+        let text = [b'-', t, u, b'.', a, b, c, 0, 0, 0, 0, 0, 0, 0, 0, 0, 0];
+        append(&text, 3, count, is_negative, into)
     } else {
-        let text = [b'-', u, b'.', a, b, c];
-        into.extend_from_slice(window(&text, 2, count, is_negative))
+        let text = [b'-', u, b'.', a, b, c, 0, 0, 0, 0, 0, 0, 0, 0, 0, 0, 0];
+        append(&text, 2, count, is_negative, into)
     }
 }
 
-// Of a minus, the whole part, a period and the fraction: what is printed.
-fn window(text: &[u8], point: usize, count: usize, is_negative: bool) -> &[u8]
+// Of a minus, the whole part, a period, the fraction and bytes behind: appends what is printed. The same number of
+// bytes is copied for every number, since that takes no call, and what is too much is cut off.
+#[inline(always)]
+fn append(
+    text: &[u8],
+    point: usize,
+    count: usize,
+    is_negative: bool,
+    into: &mut Vec<u8>,
+) -> Result<(), AllocError>
+    requires text { length text.now ≡ COPIED + 1 }
     requires point { 1 ≤ point }
-    requires within { point + 1 + count ≤ length text.now }
-    ensures { result.now ≡ window text.now point count is_negative }
+    requires within { point + 1 + count ≤ COPIED }
+    ensures ok { OnOk result (into.new.items ≡ into.old.items ++ window text.now point count is_negative) }
+    ensures err { OnErr result (into.new.items ≡ into.old.items) }
 {
-    let start = usize::from(!is_negative);
-    let end = if count == 0 { point } else { point + 1 + count };
-    &text[start..end]
+    let start = shown_from(is_negative);
+    let end = shown_to(point, count);
+    let before = into.len();
+    into.extend_from_slice(&text[start..start + COPIED])?;
+    into.truncate(before + (end - start));
+    Ok(())
+}
+
+fn shown_from(is_negative: bool) -> usize
+    ensures { result ≡ (if is_negative then 0 else 1) }
+{
+    usize::from(!is_negative)
+}
+
+fn shown_to(point: usize, count: usize) -> usize
+    requires { point + 1 + count ≤ COPIED }
+    ensures end { result ≡ (if count == 0 then point else point + 1 + count) }
+    ensures within { result ≤ COPIED }
+{
+    if count == 0 { point } else { point + 1 + count }
 }
 
 fn print_long(value: Dec, into: &mut Vec<u8>) -> Result<(), AllocError>
@@ -154,12 +183,13 @@ fn places_of(size: u64) -> [u8; 6]
     [a, b, c, d, e, f]
 }
 
+#[tactic(auto, using(crate::proofs::Pairs::digits_are))]
 fn three_digits(number: u32) -> [u8; 3]
     requires { number < 1000 }
     ensures { result ≡ three_digits number }
 {
-    let tens = number / 10;
-    [digit(tens / 10), digit(tens % 10), digit(number % 10)]
+    let from = (number % 100) as usize * 2;
+    [digit(number / 100), PAIRS[from], PAIRS[from + 1]]
 }
 
 #[inline(always)]
