@@ -4,7 +4,7 @@ ghost use Rattle.ld_colour.specs.Table.{counting};
 ghost use Rattle.ld_steps.specs.Parts.{entries_in};
 ghost use Rattle.ld_report.specs.Extending.{Extends};
 ghost use Rattle.ld_report.specs.Pieces.{line_text};
-ghost use Rattle.ld_report.specs.Steps.{step_heading, steps_text, turn_text, turn_word, view_words};
+ghost use Rattle.ld_report.specs.Steps.{step_heading, step_text, steps_text, turn_text, turn_word, view_words};
 
 use crate::entry::append_entries;
 use crate::pieces::{print_number, print_point};
@@ -51,9 +51,25 @@ fn append_steps(
     ensures keeps { Extends into.old.items into.new.items }
 {
     for (before, step) in steps.iter().enumerate() {
-        print_step(before + 1, step, into)?;
-        append_entries(texts, table, entries_in(answer_entries, step), into)?;
+        append_step(texts, table, answer_entries, before + 1, step, into)?;
     }
+    Ok(())
+}
+
+#[tactic(auto, using(crate::proofs::Extending::extending))]
+fn append_step(
+    texts: &Texts,
+    table: &Table,
+    answer_entries: &[Entry],
+    number: usize,
+    step: &StepPart,
+    into: &mut Vec<u8>,
+) -> Result<(), AllocError>
+    ensures ok { OnOk result (into.new.items ≡ into.old.items ++ step_text texts.now.known (counting table.now) answer_entries.now number step.now) }
+    ensures keeps { Extends into.old.items into.new.items }
+{
+    print_step(number, step, into)?;
+    append_entries(texts, table, entries_in(answer_entries, step), into)?;
     Ok(())
 }
 

@@ -3,15 +3,11 @@ use Rattle.std.proofs.lemmas.Grind.{common_steps}
 use Rattle.ld_report.proofs.Extending.{through}
 use Rattle.ld_report.proofs.steps.append_steps.Goals as goal
 
-pub returns-in_err-print_step-clause-keeps : goal.returns-in_err-print_step-clause-keeps
-returns-in_err-print_step-clause-keeps c = through _ _ _ c.loop-before.invariant.kept c.in_err-print_step.ensures.keeps
-
-pub returns-in_err-append_entries-clause-keeps : goal.returns-in_err-append_entries-clause-keeps
-returns-in_err-append_entries-clause-keeps c =
-    through _ _ _ c.loop-before.invariant.kept (through _ _ _ c.in_ok-print_step.ensures.keeps c.in_err-append_entries.ensures.keeps)
+pub returns-in_err-append_step-clause-keeps : goal.returns-in_err-append_step-clause-keeps
+returns-in_err-append_step-clause-keeps c = through _ _ _ c.loop-before.invariant.kept c.in_err-append_step.ensures.keeps
 
 pub loop-before-preserved : goal.loop-before-preserved
 loop-before-preserved c = record {
   printed = grind (arith, common_steps);
-  kept = through _ _ _ c.loop-before.invariant.kept (through _ _ _ c.in_ok-print_step.ensures.keeps c.in_ok-append_entries.ensures.keeps);
+  kept = through _ _ _ c.loop-before.invariant.kept c.in_ok-append_step.ensures.keeps;
 }
