@@ -1,7 +1,13 @@
--- What is left of a list, one item after another.
-use Rattle.std.proofs.Common.{◌≡◌, ◌+◌, ◌-◌, ◌<◌, ◌≤◌, ℕ, zero, suc, false, nat_lt, List, [], ◌∷◌, drop, length, ap, arith, sym, ◌∙◌}
+-- What is left of a list, one item after another; and how many fields a line has at most.
+use Rattle.std.proofs.Common.{◌≡◌, ◌+◌, ◌-◌, ◌<◌, ◌≤◌, ℕ, zero, suc, false, nat_lt, not, List, [], ◌∷◌, drop, length, ap, arith, refl, sym, ◌∙◌}
+use Rattle.std.specs.Prelude.{count_by}
+use Rattle.std.specs.List.{slice_split}
 use Rattle.std.proofs.lemmas.Bool.Decides.{nat_tests}
 use Rattle.std.proofs.lemmas.List.{length-drop}
+use Rattle.std.proofs.lemmas.List.Filters.{length-filter_both}
+use Rattle.std.proofs.lemmas.List.Splits.{length-slice_split}
+use Rattle.ld_names.specs.Normal.{is_blank}
+use Rattle.ld_line.specs.Field.{fields, is_field}
 
 -- behind what was left without its first item
 pub drop_one : {A : Type 0} (i : ℕ) (items : List A) (item : A) (more : List A) → drop i items ≡ item ∷ more → more ≡ drop (i + 1) items
@@ -18,3 +24,13 @@ none_left i count items below left =
 pub some_left : {A : Type 0} (i count : ℕ) (items left : List A) → count ≤ i → i ≤ count → left ≡ drop i items → nat_lt 0 (length left) ≡ nat_lt count (length items)
 some_left i count items left above below is =
     let size : length left ≡ length items - i = ap length is ∙ length-drop i items in grind (arith, nat_tests)
+
+-- a line has at most one field more than blanks
+few_fields : (line : List ℕ) → length (fields line) ≤ count_by is_blank line + 1
+unfolding fields
+few_fields line =
+    let parts = length-filter_both is_field (λ piece. not (is_field piece)) (λ piece. refl) (slice_split is_blank line) in
+    let cut = length-slice_split is_blank line in omega (arith, parts, cut)
+
+pub none_behind : (line : List ℕ) (count : ℕ) → count_by is_blank line < count → nat_lt count (length (fields line)) ≡ false
+none_behind line count below = let few = few_fields line in grind (arith, nat_tests)
