@@ -8,7 +8,7 @@ use Rattle.ld_line.specs.declared.line.Kind.{Kind}
 use Rattle.ld_line.specs.declared.line.Kind.TheVariants.{Line2, Tri, Quad, Opt}
 use Rattle.ld_line.specs.declared.line.Line.{Line}
 use Rattle.ld_line.specs.declared.line.Line.TheVariants.{Draw}
-use Rattle.ld_check.specs.Vectors.{Flat, cross, dot, extent, flattened, is_null, toward, turn}
+use Rattle.ld_check.specs.Vectors.{PlaneVector, cross, dot, extent, flattened, is_null, toward, turn}
 
 abbrev pub same_point : Point → Point → Bool
 same_point p q = int_eq p.x q.x && int_eq p.y q.y && int_eq p.z q.z
@@ -52,7 +52,7 @@ is_bent_quad (Draw Quad colour points) = is_bent points
 is_bent_quad line = false
 
 -- how the way round turns at each corner, by the four sides of a quad
-abbrev pub turns : Flat → Flat → Flat → Flat → List ℤ
+abbrev pub turns : PlaneVector → PlaneVector → PlaneVector → PlaneVector → List ℤ
 turns ab bc cd da = turn da ab ∷ turn ab bc ∷ turn bc cd ∷ turn cd da ∷ []
 
 -- the way round turns to the same hand at each corner

@@ -7,8 +7,8 @@ use Rattle.ld_check.specs.declared.finding.Finding.{Finding}
 abbrev pub file_of : List ℕ → FileId
 file_of name = record { folder = Model; name = name }
 
-abbrev pub at : ℕ → ℕ → Finding
-at line rule = record { line = line; rule = rule }
+abbrev pub found_at : ℕ → ℕ → Finding
+found_at line rule = record { line = line; rule = rule }
 
 abbrev pub car_lines : List (List ℕ)
 car_lines =
@@ -43,16 +43,16 @@ bad_lines =
 
 abbrev pub bad_findings : List Finding
 bad_findings =
-    at 2 103
-    ∷ at 7 108
-    ∷ at 8 302
-    ∷ at 9 304
-    ∷ at 10 303
-    ∷ at 11 305
-    ∷ at 12 308
-    ∷ at 13 306
-    ∷ at 13 308
-    ∷ at 14 301
-    ∷ at 14 302
-    ∷ at 15 201
+    found_at 2 103
+    ∷ found_at 7 108
+    ∷ found_at 8 302
+    ∷ found_at 9 304
+    ∷ found_at 10 303
+    ∷ found_at 11 305
+    ∷ found_at 12 308
+    ∷ found_at 13 306
+    ∷ found_at 13 308
+    ∷ found_at 14 301
+    ∷ found_at 14 302
+    ∷ found_at 15 201
     ∷ []

@@ -30,15 +30,15 @@ abbrev pub extent : Vector → ℕ
 extent v = unsigned_abs v.x + unsigned_abs v.y + unsigned_abs v.z
 
 -- a vector of a coordinate plane
-pub record Flat : Type 0 where
+pub record PlaneVector : Type 0 where
   pub x : ℤ
   pub y : ℤ
 
 -- a vector without the coordinate in which the normal is greatest, the first of x, y, z of equal ones
-abbrev pub flattened : Vector → Vector → Flat
+abbrev pub flattened : Vector → Vector → PlaneVector
 flattened normal v =
     if nat_le (unsigned_abs normal.y) (unsigned_abs normal.x) && nat_le (unsigned_abs normal.z) (unsigned_abs normal.x) then record { x = v.y; y = v.z } else if nat_le (unsigned_abs normal.z) (unsigned_abs normal.y) then record { x = v.x; y = v.z } else record { x = v.x; y = v.y }
 
 -- how a way turns from one side to the next: to one hand above zero, to the other below, and zero straight on
-abbrev pub turn : Flat → Flat → ℤ
+abbrev pub turn : PlaneVector → PlaneVector → ℤ
 turn u v = flat_cross u.x u.y v.x v.y

@@ -4,7 +4,7 @@ ghost use Rattle.std.specs.List.{list_all};
 ghost use Rattle.ld_check.specs.Geometry.{corner_turns, ends_of, has_equal, has_equal_points, is_bent, is_bent_quad, is_even, is_straight, is_straight_triangle, is_uneven_quad, same_point, turns};
 ghost use Rattle.ld_num.specs.declared.point.Point.{Point as SpecPoint};
 
-use crate::vector::{Flat, Side};
+use crate::vector::{PlaneVector, Side};
 use ld_line::{Kind, Line};
 use ld_num::Point;
 
@@ -120,7 +120,7 @@ fn corner_turns(points: &[Point; 4]) -> [i128; 4]
     turns(&ab, &bc, &cd, &da)
 }
 
-fn turns(ab: &Flat, bc: &Flat, cd: &Flat, da: &Flat) -> [i128; 4]
+fn turns(ab: &PlaneVector, bc: &PlaneVector, cd: &PlaneVector, da: &PlaneVector) -> [i128; 4]
     ensures { result ≡ turns ab.now bc.now cd.now da.now }
 {
     [da.turn(ab), ab.turn(bc), bc.turn(cd), cd.turn(da)]

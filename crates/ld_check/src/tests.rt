@@ -1,7 +1,7 @@
 //! Parts and their findings.
 ghost use Rattle.std.specs.Prelude.{◌≡◌, [], ◌∷◌, codes};
 ghost use Rattle.ld_check.specs.Findings.{findings_of};
-ghost use Rattle.ld_check.specs.Rows.{at, bad_findings, bad_lines, car_lines, file_of};
+ghost use Rattle.ld_check.specs.Rows.{bad_findings, bad_lines, car_lines, file_of, found_at};
 
 use crate::check;
 use ld_names::{FileId, Folder, Lines, List, normal};
@@ -10,8 +10,8 @@ use std::test::Fail;
 
 // The definitions, by computing.
 fn findings_by_definition()
-    ensures empty { findings_of (file_of (codes "m.ldr")) [] ≡ at 1 101 ∷ at 2 102 ∷ at 3 104 ∷ at 4 105 ∷ at 5 106 ∷ [] }
-    ensures ordinary_model { findings_of (file_of (codes "car.ldr")) car_lines ≡ at 4 105 ∷ at 6 107 ∷ [] }
+    ensures empty { findings_of (file_of (codes "m.ldr")) [] ≡ found_at 1 101 ∷ found_at 2 102 ∷ found_at 3 104 ∷ found_at 4 105 ∷ found_at 5 106 ∷ [] }
+    ensures ordinary_model { findings_of (file_of (codes "car.ldr")) car_lines ≡ found_at 4 105 ∷ found_at 6 107 ∷ [] }
     ensures bad_part { findings_of (file_of (codes "bad.dat")) bad_lines ≡ bad_findings }
 {}
 

@@ -45,20 +45,20 @@ impl Model for Normal {
 
 // A side without one of its coordinates.
 #[derive(Drop)]
-pub(crate) struct Flat {
+pub(crate) struct PlaneVector {
     x: i64,
     y: i64,
 }
 
-impl Model for Flat {
+impl Model for PlaneVector {
     ghost use Rattle.std.specs.Prelude.{◌^◌, ◌*◌, ◌≤◌, unsigned_abs};
-    ghost use Rattle.ld_check.specs.Vectors.{Flat};
+    ghost use Rattle.ld_check.specs.Vectors.{PlaneVector};
 
-    ghost Value = { Flat };
+    ghost Value = { PlaneVector };
 
-    ghost view = { λ flat. record { x = flat.x; y = flat.y } };
+    ghost view = { λ vector. record { x = vector.x; y = vector.y } };
 
-    ghost invariant = { λ flat. (unsigned_abs flat.x ≤ 2 * 10 ^ 12) × (unsigned_abs flat.y ≤ 2 * 10 ^ 12) };
+    ghost invariant = { λ vector. (unsigned_abs vector.x ≤ 2 * 10 ^ 12) × (unsigned_abs vector.y ≤ 2 * 10 ^ 12) };
 }
 
 impl Side {
@@ -83,7 +83,7 @@ impl Side {
     }
 
     // Without the coordinate in which the normal is greatest, the first of equal ones.
-    pub(crate) fn flattened(&self, normal: &Normal) -> Flat
+    pub(crate) fn flattened(&self, normal: &Normal) -> PlaneVector
         ensures { result ≡ flattened normal.now self.now }
     {
         let (x, y, z) = (
@@ -92,18 +92,18 @@ impl Side {
             normal.z.unsigned_abs(),
         );
         if are_at_most(x, y, z) {
-            return Flat {
+            return PlaneVector {
                 x: self.y,
                 y: self.z,
             };
         }
         if z <= y {
-            return Flat {
+            return PlaneVector {
                 x: self.x,
                 y: self.z,
             };
         }
-        Flat {
+        PlaneVector {
             x: self.x,
             y: self.y,
         }
@@ -136,9 +136,9 @@ impl Normal {
     }
 }
 
-impl Flat {
+impl PlaneVector {
     // How a way turns from this side to the next one.
-    pub(crate) fn turn(&self, next: &Flat) -> i128
+    pub(crate) fn turn(&self, next: &PlaneVector) -> i128
         ensures { result ≡ turn self.now next.now }
     {
         flat_cross(self.x, self.y, next.x, next.y)
