@@ -24,7 +24,7 @@ use Rattle.ld_steps.specs.declared.step.StepPart.{StepPart}
 use Rattle.ld_inline.specs.Flat.{Shape, flat, flat_shape, shape_of, shapes_of}
 use Rattle.ld_inline.specs.Inside.Shown.{AreShownSteps, IsShown}
 use Rattle.ld_inline.specs.Meaning.{MeansFlat, ReadsAs, first_text, only_text, steps_of_answer}
-use Rattle.ld_inline.specs.Text.{text_of}
+use Rattle.ld_inline.specs.Text.{written_text}
 use Rattle.ld_inline.proofs.Outcomes.{seen, seen_steps, text_again, unsourced}
 use Rattle.ld_inline.proofs.Said.{Reads, said, text_says}
 use Rattle.ld_inline.proofs.StepsAgain.{flats, parts-again, steps-seen}
@@ -96,7 +96,7 @@ module _ (reads : Reads) (under_laws : UnderLaws) (table : Counting) (finds : Fi
         same_steps = ap (λ ls. step_parts ls (map length by_line)) lines ∙ ap (step_parts (said table entries steps)) (lengths-seen by_line ∙ ap (map length) given) ∙ parts-again table entries steps are;
       }
 
-  pub means-flat : (text : List ℕ) → text ≡ text_of table entries steps → MeansFlat entries steps table text
+  pub means-flat : (text : List ℕ) → text ≡ written_text table entries steps → MeansFlat entries steps table text
   means-flat text is lawful name most few =
       let lines : (only_text name (lines_of text)).lines first_text ≡ said table entries steps = only-lines name (lines_of text) ∙ ap (λ bytes. map line_of (lines_of bytes)) is ∙ text_says reads table finds entries steps shown lawful turns in
       reads-flat (only_text name (lines_of text)) most lawful few lines

@@ -34,7 +34,7 @@ use Rattle.ld_steps.specs.declared.step.StepPart.{StepPart}
 use Rattle.ld_steps.specs.declared.step.Turn.{Turn}
 use Rattle.ld_inline.specs.Flat.{flat_colour, flat_points}
 use Rattle.ld_inline.specs.Inside.Shown.{AreFourPoints, AreShownSteps, IsShown, IsShownColour, IsShownRotation}
-use Rattle.ld_inline.specs.Text.{Words, clip_lines, written_colour, drawn_words, entries_lines, entry_lines, stands_behind, step_rotation, stepped_words, steps_lines, text_of, written_points}
+use Rattle.ld_inline.specs.Text.{Words, clip_lines, written_colour, drawn_words, entries_lines, entry_lines, stands_behind, step_rotation, stepped_words, steps_lines, written_text, written_points}
 
 -- what is known of how words and lines are read
 pub record Reads : Type 0 where
@@ -240,8 +240,8 @@ module _ (r : Reads) where
         (say_entries stands (entries_in entries step) (All-range IsShown entries step shown) (All-range IsLawfulEntry entries step lawful))
         (say_rotation (step_rotation view step.view) turns.0 (steps_lines table entries step.view behind steps) (said_steps table entries step.view behind steps) (say_steps entries step.view behind steps shown lawful turns.1))
 
-    pub text_says : (entries : List Entry) (steps : List StepPart) → All IsShown entries → All IsLawfulEntry entries → AreShownSteps [] steps → map line_of (lines_of (text_of table entries steps)) ≡ said table entries steps
-    unfolding text_of
+    pub text_says : (entries : List Entry) (steps : List StepPart) → All IsShown entries → All IsLawfulEntry entries → AreShownSteps [] steps → map line_of (lines_of (written_text table entries steps)) ≡ said table entries steps
+    unfolding written_text
     text_says entries steps shown lawful turns =
         let lines = bfc_line (codes "CERTIFY" ∷ codes "CCW" ∷ []) ∷ steps_lines table entries [] true steps in
         let s : Say lines (said table entries steps) = say_line (bfc_line (codes "CERTIFY" ∷ codes "CCW" ∷ [])) (Bfc (Certify Ccw)) (steps_lines table entries [] true steps) (said_steps table entries [] true steps) refl r.steps.certify (say_steps entries [] true steps shown lawful turns) in

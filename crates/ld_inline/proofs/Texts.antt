@@ -70,14 +70,14 @@ IsWithin total step = (step.first ≤ step.end) × (step.end ≤ total)
 pub within_more : (total : ℕ) (steps more : List StepPart) (step : StepPart) → steps ≡ step ∷ more → All (IsWithin total) steps → All (IsWithin total) more
 within_more total steps more step is within = All-tail (IsWithin total) step more (subst (All (IsWithin total)) is within)
 
-pub steps_more : (table : Counting) (entries : List Entry) (before view : List Turn) (stands clip : Bool) (steps more : List StepPart) (step : StepPart) (into drawn ended whole : List ℕ) → steps ≡ step ∷ more → view ≡ step.view → clip ≡ fold stands_behind stands (entries_in entries step) → drawn ≡ into ++ lines_text (entries_lines table stands (entries_in entries step)) → ended ≡ drawn ++ lines_text (stepped_words (step_rotation before step.view) ∷ []) → into ++ lines_text (steps_lines table entries before stands steps) ≡ whole → ended ++ lines_text (steps_lines table entries view clip more) ≡ whole
-steps_more table entries before view stands clip steps more step into drawn ended whole is views clips draws ends so_far =
+pub steps_more : (table : Counting) (entries : List Entry) (before view : List Turn) (stands clip : Bool) (steps more : List StepPart) (step : StepPart) (into now whole : List ℕ) → steps ≡ step ∷ more → view ≡ step.view → clip ≡ fold stands_behind stands (entries_in entries step) → now ≡ into ++ lines_text (entries_lines table stands (entries_in entries step)) ++ lines_text (stepped_words (step_rotation before step.view) ∷ []) → into ++ lines_text (steps_lines table entries before stands steps) ≡ whole → now ++ lines_text (steps_lines table entries view clip more) ≡ whole
+steps_more table entries before view stands clip steps more step into now whole is views clips appended so_far =
     let own = entries_lines table stands (entries_in entries step) in
     let line = stepped_words (step_rotation before step.view) in
     let rest = steps_lines table entries step.view (fold stands_behind stands (entries_in entries step)) more in
-    ap (λ v. ended ++ lines_text (steps_lines table entries v clip more)) views
-    ∙ ap (λ b. ended ++ lines_text (steps_lines table entries step.view b more)) clips
-    ∙ ap (λ text. text ++ lines_text rest) (ends ∙ ap (λ text. text ++ lines_text (line ∷ [])) draws)
+    ap (λ v. now ++ lines_text (steps_lines table entries v clip more)) views
+    ∙ ap (λ b. now ++ lines_text (steps_lines table entries step.view b more)) clips
+    ∙ ap (λ text. text ++ lines_text rest) appended
     ∙ append_assoc (into ++ lines_text own) (lines_text (line ∷ [])) (lines_text rest)
     ∙ append_assoc into (lines_text own) (lines_text (line ∷ []) ++ lines_text rest)
     ∙ ap (λ text. into ++ (lines_text own ++ text)) (sym (lines_text_append (line ∷ []) rest))

@@ -13,14 +13,14 @@ use Rattle.ld_entry.specs.declared.entry.Source.{Source}
 use Rattle.ld_steps.specs.declared.step.StepPart.{StepPart}
 use Rattle.ld_steps.specs.declared.step.Turn.{Turn}
 
-abbrev pub at : ℕ → ℕ → ℕ → Point
-at x y z = record { x = pos (x * 1000000); y = pos (y * 1000000); z = pos (z * 1000000) }
+abbrev pub point_at : ℕ → ℕ → ℕ → Point
+point_at x y z = record { x = pos (x * 1000000); y = pos (y * 1000000); z = pos (z * 1000000) }
 
-abbrev pub corner : List Point
-corner = at 0 0 0 ∷ at 1 0 0 ∷ at 0 1 0 ∷ at 0 0 0 ∷ []
+abbrev pub corner_points : List Point
+corner_points = point_at 0 0 0 ∷ point_at 1 0 0 ∷ point_at 0 1 0 ∷ point_at 0 0 0 ∷ []
 
 abbrev pub along : ℕ → List Point
-along x = at 0 0 0 ∷ at x 0 0 ∷ at 0 0 0 ∷ at 0 0 0 ∷ []
+along x = point_at 0 0 0 ∷ point_at x 0 0 ∷ point_at 0 0 0 ∷ point_at 0 0 0 ∷ []
 
 abbrev pub here : Source
 here = record { text = record { 0 = 0 }; line = 1 }
@@ -34,8 +34,8 @@ step first end view = record { first = first; end = end; view = view }
 abbrev pub relative : Angles → Turn
 relative angles = record { absolute = false; angles = angles }
 
-abbrev pub turned : ℕ → ℕ → Turn
-turned x y = relative (record { x = pos (x * 1000000); y = pos (y * 1000000); z = pos 0 })
+abbrev pub turned_by : ℕ → ℕ → Turn
+turned_by x y = relative (record { x = pos (x * 1000000); y = pos (y * 1000000); z = pos 0 })
 
 -- the steps of the worked example steps
 abbrev pub six_steps : Turn → Turn → List StepPart

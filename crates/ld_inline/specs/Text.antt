@@ -117,8 +117,8 @@ steps_lines table entries view stands (step ∷ steps) =
 abbrev pub lines_text : List Words → List ℕ
 lines_text lines = ended (map spaced lines)
 
-unfoldable pub text_of : Counting → List Entry → List StepPart → List ℕ
-text_of table entries steps = lines_text (bfc_line (codes "CERTIFY" ∷ codes "CCW" ∷ []) ∷ steps_lines table entries [] true steps)
+unfoldable pub written_text : Counting → List Entry → List StepPart → List ℕ
+written_text table entries steps = lines_text (bfc_line (codes "CERTIFY" ∷ codes "CCW" ∷ []) ∷ steps_lines table entries [] true steps)
 
 -- ---- Colours without a value.
 
@@ -150,7 +150,7 @@ unless_missing (Some code) text = Err code
 
 -- the text of entries and steps by a table, or the code of the first edge colour that has no value
 unfoldable pub inlined_text : List Entry → List StepPart → Counting → Result (List ℕ) ℕ
-inlined_text entries steps table = unless_missing (first_missing table entries) (text_of table entries steps)
+inlined_text entries steps table = unless_missing (first_missing table entries) (written_text table entries steps)
 
 -- the text, or the code that has no value; want of memory says nothing
 abbrev pub Inlines : Result (List ℕ) ℕ → Result (Vec ℕ Global) InlineError → Type 0

@@ -2,9 +2,10 @@ ghost use Rattle.std.specs.Prelude.{◌≡◌, ◌≤◌, ◌&&◌, ◌++◌, �
 ghost use Rattle.std.specs.List.{fold};
 ghost use Rattle.ld_colour.specs.Table.{counting};
 ghost use Rattle.ld_steps.specs.Laws.{AreSteps};
+ghost use Rattle.ld_steps.specs.Parts.{entries_in};
 ghost use Rattle.ld_inline.specs.Meaning.{MeansFlat};
-ghost use Rattle.ld_inline.specs.Text.{Inlines, clip_lines, entries_lines, entry_lines, first_missing, inlined_text, lines_text, missing_in, missing_colour, stands_behind, steps_lines, text_of};
-ghost use Rattle.ld_inline.specs.Inside.Shown.{AreShownSteps, IsShown};
+ghost use Rattle.ld_inline.specs.Text.{Inlines, clip_lines, entries_lines, entry_lines, first_missing, inlined_text, lines_text, missing_in, missing_colour, stands_behind, step_rotation, stepped_words, steps_lines, written_text};
+ghost use Rattle.ld_inline.specs.Inside.Shown.{AreShownSteps, IsShown, IsShownStep};
 
 use crate::ranges::{colour_range, points_range};
 use crate::rotation::append_step;
@@ -28,8 +29,8 @@ pub enum InlineError {
 pub(crate) const NO_POINTS: [Point; 0] = [];
 
 /// One text without references, which has the drawn entries and the steps of an answer (File Format
-/// 1.0.2, "Line Type 2" to "Line Type 5" and "STEP"). It states back face culling for each entry,
-/// turns clockwise faces round, and writes edge colours by their red, green and blue.
+/// 1.0.2, "Line Type 2" to "Line Type 5" and "STEP"). It states where clipping changes, turns
+/// clockwise faces round, and writes edge colours by their red, green and blue.
 ///
 /// # Errors
 ///
@@ -110,7 +111,7 @@ const ENTRY_BYTES: usize = 48;
 
 const STEP_BYTES: usize = 8;
 
-#[tactic(auto, unfolding(crate::specs::Text::text_of))]
+#[tactic(auto, unfolding(crate::specs::Text::written_text))]
 fn write(
     alloc: Global,
     entries: &[Entry],
@@ -118,7 +119,7 @@ fn write(
     table: &Table,
 ) -> Result<Vec<u8>, AllocError>
     requires { AreSteps (length entries.now) steps.now }
-    ensures text { IfOk result (λ text. text.items ≡ text_of (counting table.now) entries.now steps.now) }
+    ensures text { IfOk result (λ text. text.items ≡ written_text (counting table.now) entries.now steps.now) }
     ensures shown { OnOk result (AreShownSteps [] steps.now) }
 {
     let room = entries
@@ -146,13 +147,32 @@ fn append_steps(
     let mut before: &[Turn] = &[];
     let mut clip = true;
     while let Some((step, more)) = rest.split_first() {
-        let own = &entries[step.first as usize..step.end as usize];
-        clip = append_entries(clip, own, table, into)?;
-        append_step(before, step.view.as_slice(), into)?;
+        clip = append_part(entries, step, before, clip, table, into)?;
         before = step.view.as_slice();
         rest = more;
     }
     Ok(())
+}
+
+// The lines of a step's own entries, and its step line behind this view; whether clipping stands
+// behind them.
+fn append_part(
+    entries: &[Entry],
+    step: &StepPart,
+    before: &[Turn],
+    clip: bool,
+    table: &Table,
+    into: &mut Vec<u8>,
+) -> Result<bool, AllocError>
+    requires { (step.now.first ≤ step.now.end) × (step.now.end ≤ length entries.now) }
+    ensures text { OnOk result (into.new.items ≡ into.old.items ++ lines_text (entries_lines (counting table.now) clip (entries_in entries.now step.now)) ++ lines_text (stepped_words (step_rotation before.now step.now.view) ∷ [])) }
+    ensures stands { IfOk result (λ stands. stands ≡ fold stands_behind clip (entries_in entries.now step.now)) }
+    ensures shown { OnOk result (IsShownStep before.now step.now.view) }
+{
+    let own = &entries[step.first as usize..step.end as usize];
+    let stands = append_entries(clip, own, table, into)?;
+    append_step(before, step.view.as_slice(), into)?;
+    Ok(stands)
 }
 
 // The lines of entries; whether clipping stands behind them.

@@ -5,7 +5,7 @@ ghost use Rattle.ld_line.specs.declared.line.Kind.TheVariants.{Line2, Opt, Quad,
 ghost use Rattle.ld_line.specs.declared.line.Winding.TheVariants.{Ccw, Cw};
 ghost use Rattle.ld_colour.specs.declared.colour.Colour.TheVariants.{Code, Direct, Edge, EdgeOf, Main};
 ghost use Rattle.ld_steps.specs.Laws.{AreSteps};
-ghost use Rattle.ld_inline.specs.Rows.{along, colours, corner, entry, no_colours, relative, six_steps, step, turned};
+ghost use Rattle.ld_inline.specs.Rows.{along, colours, corner_points, entry, no_colours, relative, six_steps, step, turned_by};
 ghost use Rattle.ld_inline.specs.Text.{inlined_text};
 
 use crate::inlining::NO_POINTS;
@@ -232,11 +232,11 @@ fn steps_are_inlined(rt: HostRuntime) -> Result<(), Fail> {
 // The definitions, by computing: the worked examples empty, clip-and-winding, colours and steps.
 fn inlined_by_definition()
     ensures empty { inlined_text [] (step 0 0 [] ∷ []) no_colours ≡ Ok (ended (codes "0 BFC CERTIFY CCW" ∷ codes "0 STEP" ∷ [])) }
-    ensures culling { inlined_text (entry Tri true true Cw Main corner ∷ entry Tri true false Ccw Main corner ∷ []) (step 0 2 [] ∷ []) no_colours
+    ensures culling { inlined_text (entry Tri true true Cw Main corner_points ∷ entry Tri true false Ccw Main corner_points ∷ []) (step 0 2 [] ∷ []) no_colours
         ≡ Ok (ended (codes "0 BFC CERTIFY CCW" ∷ codes "3 16 0 1 0 1 0 0 0 0 0" ∷ codes "0 BFC NOCLIP" ∷ codes "3 16 0 0 0 1 0 0 0 1 0" ∷ codes "0 STEP" ∷ [])) }
     ensures missing { inlined_text (entry Line2 false true Ccw (Code 4) (along 1) ∷ entry Line2 false true Ccw (EdgeOf 4) (along 1) ∷ entry Line2 false true Ccw (EdgeOf 1) (along 1) ∷ []) (step 0 3 [] ∷ []) no_colours ≡ Err 4 }
-    ensures edges { inlined_text (entry Line2 false true Ccw (EdgeOf 4) (along 1) ∷ entry Line2 false true Cw (EdgeOf 1) (along 1) ∷ entry Quad true true Cw (Direct 0xFF8000) corner ∷ []) (step 0 3 [] ∷ []) colours
+    ensures edges { inlined_text (entry Line2 false true Ccw (EdgeOf 4) (along 1) ∷ entry Line2 false true Cw (EdgeOf 1) (along 1) ∷ entry Quad true true Cw (Direct 0xFF8000) corner_points ∷ []) (step 0 3 [] ∷ []) colours
         ≡ Ok (ended (codes "0 BFC CERTIFY CCW" ∷ codes "0 BFC NOCLIP" ∷ codes "2 0x2333333 0 0 0 1 0 0" ∷ codes "2 0x205131D 0 0 0 1 0 0" ∷ codes "0 BFC CLIP" ∷ codes "4 0x2FF8000 0 0 0 0 1 0 1 0 0 0 0 0" ∷ codes "0 STEP" ∷ [])) }
-    ensures steps { inlined_text (entry Line2 false true Ccw Edge (along 1) ∷ entry Line2 false true Ccw Edge (along 3) ∷ entry Line2 false true Ccw Edge (along 4) ∷ entry Line2 false true Ccw Edge (along 2) ∷ []) (six_steps (turned 0 45) (turned 10 0)) no_colours
+    ensures steps { inlined_text (entry Line2 false true Ccw Edge (along 1) ∷ entry Line2 false true Ccw Edge (along 3) ∷ entry Line2 false true Ccw Edge (along 4) ∷ entry Line2 false true Ccw Edge (along 2) ∷ []) (six_steps (turned_by 0 45) (turned_by 10 0)) no_colours
         ≡ Ok (ended (codes "0 BFC CERTIFY CCW" ∷ codes "0 BFC NOCLIP" ∷ codes "2 24 0 0 0 1 0 0" ∷ codes "0 STEP" ∷ codes "0 STEP" ∷ codes "0 ROTSTEP 0 45 0 REL" ∷ codes "0 ROTSTEP 10 0 0 ADD" ∷ codes "2 24 0 0 0 3 0 0" ∷ codes "2 24 0 0 0 4 0 0" ∷ codes "0 ROTSTEP END" ∷ codes "2 24 0 0 0 2 0 0" ∷ codes "0 STEP" ∷ [])) }
 {}

@@ -3,12 +3,12 @@ use Rattle.std.specs.Fmt.{digits}
 use Rattle.ld_num.specs.Text.{dec_text}
 use Rattle.ld_line.specs.Printing.{direct_text}
 use Rattle.ld_colour.specs.Table.{rgb_in}
-use Rattle.ld_inline.specs.Text.{inlined_text, text_of}
+use Rattle.ld_inline.specs.Text.{inlined_text, written_text}
 use Rattle.ld_inline.proofs.tests.inlined_by_definition.Goals as goal
 
 -- what the examples compute with
 opened : ℕ
-unfolding inlined_text text_of digits dec_text direct_text rgb_in
+unfolding inlined_text written_text digits dec_text direct_text rgb_in
 opened = 0
 
 pub returns-clause-empty : goal.returns-clause-empty
