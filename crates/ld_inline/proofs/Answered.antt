@@ -8,7 +8,7 @@ use Rattle.ld_line.specs.declared.line.Line.TheVariants as line
 use Rattle.ld_bfc.specs.LineState.{next, start}
 use Rattle.ld_bfc.specs.declared.culling.State.{State}
 use Rattle.ld_colour.specs.declared.colour.Colour.{Colour}
-use Rattle.ld_entry.specs.Answers.{answer, entries_before, first_fault, left_below, unless_too_many}
+use Rattle.ld_entry.specs.Answers.{answer, entries_before, first_fault, left_below, outcome_counts, unless_too_many}
 use Rattle.ld_entry.specs.Carrying.{Outcome, colour_above}
 use Rattle.ld_entry.specs.Laws.{LawfulLaw}
 use Rattle.ld_entry.specs.Lawful.{IsLawfulEntry}
@@ -21,7 +21,6 @@ use Rattle.ld_steps.specs.Laws.{AreSteps, GiveEntries, PartLaw}
 use Rattle.ld_steps.specs.Parts.{step_parts}
 use Rattle.ld_steps.specs.Steps.{shows}
 use Rattle.ld_inline.specs.Laws.{AnswersInline}
-use Rattle.ld_inline.specs.Meaning.{steps_of_answer}
 use Rattle.ld_inline.proofs.StepsAgain.{sum-lengths}
 
 -- outcomes without a fault are entries
@@ -66,8 +65,8 @@ answered-by None given entries (Some fault) is = cc
 answered-by None given entries None is = let same : given ≡ entries = cc in (refl, same)
 
 module _ (part_law : PartLaw) (texts : NumberedTexts) (depth most : ℕ) (root : TextId) (colour : Colour) (entries : List Entry) where
-  steps-of-answer : answer texts depth most root colour ≡ Ok entries → AreSteps (length entries) (steps_of_answer texts depth root colour)
-  unfolding answer steps_of_answer
+  steps-of-answer : answer texts depth most root colour ≡ Ok entries → AreSteps (length entries) (step_parts (texts.lines root) (outcome_counts texts depth root colour))
+  unfolding answer outcome_counts
   steps-of-answer is =
       let context = context_of texts [] root (colour_above colour) in
       let by_line = all_by_line (left_below depth []) context in

@@ -12,7 +12,7 @@ use Rattle.ld_bfc.specs.LineState.{start}
 use Rattle.ld_colour.specs.Laws.{UnderLaws}
 use Rattle.ld_colour.specs.Table.{Counting, FindsRgb}
 use Rattle.ld_colour.specs.declared.colour.Colour.TheVariants.{Main}
-use Rattle.ld_entry.specs.Answers.{answer, answer_by, answer_of, entries_before, first_fault, left_below, unless_too_many}
+use Rattle.ld_entry.specs.Answers.{answer, answer_by, answer_of, entries_before, first_fault, left_below, outcome_counts, unless_too_many}
 use Rattle.ld_entry.specs.Carrying.{Outcome, colour_above}
 use Rattle.ld_entry.specs.Lawful.{IsLawfulEntry}
 use Rattle.ld_entry.specs.NumberedTexts.{NumberedTexts, standing_lines}
@@ -23,7 +23,7 @@ use Rattle.ld_steps.specs.Parts.{step_parts}
 use Rattle.ld_steps.specs.declared.step.StepPart.{StepPart}
 use Rattle.ld_inline.specs.Flat.{Shape, flat, flat_shape, shape_of, shapes_of}
 use Rattle.ld_inline.specs.Inside.Shown.{AreShownSteps, IsShown}
-use Rattle.ld_inline.specs.Meaning.{MeansFlat, ReadsAs, first_text, only_text, steps_of_answer}
+use Rattle.ld_inline.specs.Meaning.{MeansFlat, ReadsAs, first_text, only_text}
 use Rattle.ld_inline.specs.Text.{written_text}
 use Rattle.ld_inline.proofs.Outcomes.{seen, seen_steps, text_again, unsourced}
 use Rattle.ld_inline.proofs.Said.{Reads, said, text_says}
@@ -81,7 +81,7 @@ module _ (reads : Reads) (under_laws : UnderLaws) (table : Counting) (finds : Fi
       ∙ text_again under_laws table finds texts first_text entries steps (texts.is_part first_text) shown lawful
 
   reads-flat : (texts : NumberedTexts) (most : ℕ) → All IsLawfulEntry entries → length (shapes_of entries) ≤ most → texts.lines first_text ≡ said table entries steps → ReadsAs (flat entries steps table) texts most
-  unfolding answer flat steps_of_answer
+  unfolding answer flat outcome_counts
   reads-flat texts most lawful few lines =
       let by_line = all_by_line (left_below 1 []) (context_of texts [] first_text (colour_above Main)) in
       let outcomes = concatenation by_line in

@@ -6,21 +6,14 @@ use Rattle.ld_names.specs.declared.file.Folder.TheVariants.{Model}
 use Rattle.ld_names.specs.declared.file.TextId.{TextId}
 use Rattle.ld_line.specs.Cut.{lines_of}
 use Rattle.ld_colour.specs.Table.{Counting}
-use Rattle.ld_colour.specs.declared.colour.Colour.{Colour}
 use Rattle.ld_colour.specs.declared.colour.Colour.TheVariants.{Main}
-use Rattle.ld_entry.specs.Answers.{answer, left_below}
-use Rattle.ld_entry.specs.Carrying.{colour_above}
+use Rattle.ld_entry.specs.Answers.{answer, outcome_counts}
 use Rattle.ld_entry.specs.Lawful.{IsLawfulEntry}
 use Rattle.ld_entry.specs.NumberedTexts.{known_texts, NumberedTexts}
-use Rattle.ld_entry.specs.Outcomes.{all_by_line, context_of}
 use Rattle.ld_entry.specs.declared.entry.Entry.{Entry}
 use Rattle.ld_steps.specs.Parts.{step_parts}
 use Rattle.ld_steps.specs.declared.step.StepPart.{StepPart}
 use Rattle.ld_inline.specs.Flat.{flat, Flat, shape_of, shapes_of}
-
--- the steps of the answer to a query of a root in a colour
-unfoldable pub steps_of_answer : NumberedTexts → ℕ → TextId → Colour → List StepPart
-steps_of_answer texts depth root colour = step_parts (texts.lines root) (map length (all_by_line (left_below depth []) (context_of texts [] root (colour_above colour))))
 
 -- these lines as the one text there is, under a name in the model's folder
 abbrev pub only_text : List ℕ → List (List ℕ) → NumberedTexts
@@ -34,7 +27,7 @@ pub record ReadsAs (meaning : Flat) (texts : NumberedTexts) (most : ℕ) : Type 
   pub entries : List Entry
   pub answered : answer texts 1 most first_text Main ≡ Ok entries
   pub same_entries : map shape_of entries ≡ map Some meaning.shapes
-  pub same_steps : steps_of_answer texts 1 first_text Main ≡ meaning.steps
+  pub same_steps : step_parts (texts.lines first_text) (outcome_counts texts 1 first_text Main) ≡ meaning.steps
 
 -- what bytes mean, where the entries are lawful and all drawn ones may be answered
 abbrev pub MeansFlat : List Entry → List StepPart → Counting → List ℕ → Type 0
