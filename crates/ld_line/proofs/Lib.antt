@@ -1,5 +1,6 @@
 pub mod Colours
 pub mod Cuts
+pub mod Drawings
 pub mod Drawn
 pub mod Ends
 pub mod Fields
