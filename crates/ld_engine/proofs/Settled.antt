@@ -18,14 +18,14 @@ use Rattle.ld_texts.specs.Laws.{NumbersAgree}
 use Rattle.ld_texts.specs.Reach.{file_reaches, going_on, line_reaches, lines_in, lines_reach, reach, Reached, reached_by, Reaches, texts_reach, wanted_in, Wants, with_found, with_reached}
 use Rattle.ld_entry.specs.Learnt.{IsInside as IsInSet, IsLearnt, WantsNothing}
 use Rattle.ld_entry.specs.Laws.{StandingLaw}
-use Rattle.ld_entry.specs.Answers.{answer, left_below}
+use Rattle.ld_entry.specs.Answers.{answer, left_below, outcome_counts, root_outcomes}
 use Rattle.ld_entry.specs.Carrying.{colour_above}
 use Rattle.ld_entry.specs.NumberedTexts.{found_from, known_files, known_texts, lines_of_file, text_id_of, standing_texts}
 use Rattle.ld_entry.specs.NumberedTexts as numbered
 use Rattle.ld_steps.specs.Parts.{step_parts}
 use Rattle.ld_engine.specs.Going.{Grows, IsInside}
 use Rattle.ld_engine.specs.Laws.{StandsForRoots}
-use Rattle.ld_engine.specs.Stepping.{root_outcomes, steps_in, with_steps}
+use Rattle.ld_engine.specs.Stepping.{steps_in, with_steps}
 use Rattle.ld_engine.proofs.Gone.{append-grows, at-behind, few-inside, has-at}
 use Rattle.ld_engine.proofs.Numbered.{files-at, lines-seen, number-of}
 use Rattle.ld_engine.proofs.Reached.{grows-with, id-within, inside-with}
@@ -257,7 +257,7 @@ root-lines numbers known shelf root id number =
 
 -- so the known texts give for it what the texts as they stand give, in the same steps
 pub stands : NumbersAgree → StandingLaw → StandsForRoots
-unfolding steps_in
+unfolding outcome_counts
 stands numbers law known shelf distinct root id number none depth most colour =
     let settled = root-settles numbers known distinct root id (reach known root) refl number none in
     let same : steps_in (standing_texts known shelf) depth (record { 0 = id }) colour ≡ steps_in (known_texts known) depth (record { 0 = id }) colour = ap (λ ls. step_parts ls (map length (root_outcomes (standing_texts known shelf) depth (record { 0 = id }) colour))) (root-lines numbers known shelf root id number) ∙ ap (λ os. step_parts ((known_texts known).lines (record { 0 = id })) (map length os)) (law.outcomes (inside settled.0) known shelf settled.2 (left_below depth []) [] (record { 0 = id }) (colour_above colour) settled.1) in

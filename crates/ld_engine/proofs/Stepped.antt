@@ -12,7 +12,7 @@ use Rattle.ld_line.specs.declared.line.Line.TheVariants as line
 use Rattle.ld_bfc.specs.LineState.{next, start}
 use Rattle.ld_bfc.specs.declared.culling.State.{State}
 use Rattle.ld_colour.specs.declared.colour.Colour.{Colour}
-use Rattle.ld_entry.specs.Answers.{answer, answer_by, entries_before, first_fault, left_below, unless_too_many}
+use Rattle.ld_entry.specs.Answers.{answer, answer_by, entries_before, first_fault, left_below, outcome_counts, root_outcomes, unless_too_many}
 use Rattle.ld_entry.specs.Carrying.{Outcome, carried_outcome, colour_above}
 use Rattle.ld_entry.specs.Laws.{ActionLaw}
 use Rattle.ld_entry.specs.NumberedTexts.{NumberedTexts}
@@ -27,7 +27,7 @@ use Rattle.ld_steps.specs.declared.step.StepMark.{StepMark}
 use Rattle.ld_engine.specs.Gathering.{alone, enter_with}
 use Rattle.ld_engine.specs.Inside.Ends.{IsWithin, line_ends, part_by}
 use Rattle.ld_engine.specs.Laws.{StepsOfAnswers}
-use Rattle.ld_engine.specs.Stepping.{root_outcomes, steps_in, with_steps}
+use Rattle.ld_engine.specs.Stepping.{steps_in, with_steps}
 use Rattle.ld_engine.specs.declared.asking.Answer.{Answer}
 use Rattle.ld_engine.proofs.Rooted.{by-line}
 
@@ -99,7 +99,7 @@ module _ (texts : NumberedTexts) (depth most : ℕ) (root : TextId) (colour : Co
       subst (λ (ls : List (List Outcome)). GiveEntries (texts.lines root) (map length ls)) (sym is) (gives-entries (enter_with left) context (start (texts.is_part root)) 1 (texts.lines root) (sym (ap (λ ls. first_fault (concatenation ls)) is) ∙ none))
 
   answer-steps : PartLaw → (given : Result (List Entry) Fault) (answered : Answer) → answer texts depth most root colour ≡ given → with_steps (steps_in texts depth root colour) given ≡ Ok answered → AreSteps (length answered.entries) answered.steps
-  unfolding steps_in
+  unfolding outcome_counts
   answer-steps parts (Err fault) answered is same = cc
   answer-steps parts (Ok entries) answered is same =
       let found = answer-is entries is in
@@ -163,7 +163,7 @@ module _ (action : ActionLaw) (texts : NumberedTexts) (depth : ℕ) (root : Text
 
   -- the steps by the ends of the root's lines
   pub stepped : (ends : List ℕ) → StepLaws → ends ≡ 0 ∷ line_ends 0 (map length bare) → map (part_by ends) (steps_of (texts.lines root)) ≡ steps_in texts depth root colour
-  unfolding steps_in step_parts
+  unfolding outcome_counts step_parts
   stepped ends laws is =
       parts-same (texts.lines root) (map length bare) ends 0 (steps_of (texts.lines root)) is bare-count (omega arith) (laws.follow (texts.lines root))
       ∙ ap (λ ns. map (step_part ns) (steps_of (texts.lines root))) (sym counts-same)

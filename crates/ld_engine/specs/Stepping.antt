@@ -1,24 +1,18 @@
 -- The steps of an answer: File Format 1.0.2, "STEP", over the lines of the root. Step lines of other texts end no step.
-use Rattle.std.specs.Prelude.{ℕ, List, [], length, map, Result, Ok, Err}
+use Rattle.std.specs.Prelude.{ℕ, List, Result, Ok, Err}
 use Rattle.ld_names.specs.declared.file.TextId.{TextId}
 use Rattle.ld_colour.specs.declared.colour.Colour.{Colour}
 use Rattle.ld_steps.specs.Parts.{step_parts}
 use Rattle.ld_steps.specs.declared.step.StepPart.{StepPart}
-use Rattle.ld_entry.specs.Answers.{answer, left_below}
-use Rattle.ld_entry.specs.Carrying.{colour_above, Outcome}
+use Rattle.ld_entry.specs.Answers.{answer, outcome_counts}
 use Rattle.ld_entry.specs.NumberedTexts.{NumberedTexts}
-use Rattle.ld_entry.specs.Outcomes.{all_by_line, context_of}
 use Rattle.ld_entry.specs.declared.entry.Entry.{Entry}
 use Rattle.ld_entry.specs.declared.entry.Fault.{Fault}
 use Rattle.ld_engine.specs.declared.asking.Answer.{Answer}
 
--- what each line of a root gives in the colour of a query
-abbrev pub root_outcomes : NumberedTexts → ℕ → TextId → Colour → List (List Outcome)
-root_outcomes texts depth root colour = all_by_line (left_below depth []) (context_of texts [] root (colour_above colour))
-
 -- The steps of a root, each with the range of the entries that its lines give. In an answer no line gives a fault.
-unfoldable pub steps_in : NumberedTexts → ℕ → TextId → Colour → List StepPart
-steps_in texts depth root colour = step_parts (texts.lines root) (map length (root_outcomes texts depth root colour))
+abbrev pub steps_in : NumberedTexts → ℕ → TextId → Colour → List StepPart
+steps_in texts depth root colour = step_parts (texts.lines root) (outcome_counts texts depth root colour)
 
 -- entries with these steps
 abbrev pub with_steps : List StepPart → Result (List Entry) Fault → Result Answer Fault
