@@ -87,7 +87,7 @@ edited-clean keeps max_weight known edit fits clean =
 
 pub edit-refused : (limits : Limits) (known new : Known) (edit : Edit) (error : PrepareError) (max_weight : ℕ) (wanted : Option Change) → max_weight ≡ limits.total_weight → new ≡ known → AppliesUnless (refusal_of max_weight known edit) wanted (Err error) → EditsKnown limits edit known new (Err (edit_refused error))
 edit-refused limits known new edit (Refused why) max_weight wanted weight same refused = (ap (λ w. refusal_of w known edit) (sym weight) ∙ refused, same)
-edit-refused limits known new edit Memory max_weight wanted weight same refused = same
+edit-refused limits known new edit Memory max_weight wanted weight same refused = (ap (λ w. refusal_of w known edit) (sym weight) ∙ refused, same)
 
 none-some : (o : Option FileId) → o ≡ None → IsSome o → ⊥
 none-some None none some = cc
@@ -102,7 +102,7 @@ module _ (limits : Limits) (edit : Edit) where
   ends-known known new (Err error.ReadFault) are edits = absurd edits
   ends-known known new (Err (error.TooBig file)) are edits = absurd edits
   ends-known known new (Err (error.Full over)) are edits = absurd edits
-  ends-known known new (Err error.Memory) are edits = edits
+  ends-known known new (Err error.Memory) are edits = (edits.1, λ are. edits.0)
 
   pub still-known : (old known new : Known) (result : Result Unit EditError) → LearnsBy (wanted_by edit) old known → EditsKnown limits edit known new result → AreKnown old (files_in edit) → EditsKnown limits edit old new result
   still-known old known new result learns edits are =
@@ -116,27 +116,24 @@ module _ (limits : Limits) (edit : Edit) where
   told-known old known new (Some files) (Err (error.TooBig file)) are edits told = absurd edits
   told-known old known new (Some files) (Err (error.Full over)) are edits told = absurd edits
   told-known old known new (Some files) (Err error.Memory) are edits told =
-      told ∙ sym (learnt-by limits files (wanted_by edit) known (none-unknown known (files_in edit) are)) ∙ ap (edit_learning limits files edit) (sym edits)
+      told ∙ sym (learnt-by limits files (wanted_by edit) known (none-unknown known (files_in edit) are)) ∙ ap (edit_learning limits files edit) (sym edits.1)
 
   -- learning stops
 
-  pub ends-stopped : (known : Known) (stop : LearnStop) → StopsFor limits (wanted_by edit) known stop → EndsEdit limits edit known known (Err (edit_stopped stop))
-  ends-stopped known stop.ReadFault stops = (refl, stops.0, stops.1)
-  ends-stopped known (stop.TooBig file) stops = (refl, stops.0, stops.1)
-  ends-stopped known (stop.Full over) stops = (refl, stops.0, stops.1)
-  ends-stopped known stop.Memory stops = refl
+  -- a file that the edit names is still not known
+  still-unknown : (known : Known) → IsSome (wanted_by edit known) → AreKnown known (files_in edit) → ⊥
+  still-unknown known wants are = none-some (wanted_by edit known) (none-unknown known (files_in edit) are) wants
 
-  still-stopped : (old known : Known) (stop : LearnStop) → wanted_by edit known ≡ None → known ≡ old → StopsFor limits (wanted_by edit) known stop → EditsKnown limits edit old known (Err (edit_stopped stop))
-  still-stopped old known stop.ReadFault none same stops = absurd (none-some (wanted_by edit known) none stops.0)
-  still-stopped old known (stop.TooBig file) none same stops = absurd (none-some (wanted_by edit known) none (ap is_some stops.0))
-  still-stopped old known (stop.Full over) none same stops = absurd (none-some (wanted_by edit known) none stops.0)
-  still-stopped old known stop.Memory none same stops = same
+  pub ends-stopped : (known : Known) (stop : LearnStop) → IsSome (wanted_by edit known) → StopsFor limits (wanted_by edit) known stop → EndsEdit limits edit known known (Err (edit_stopped stop))
+  ends-stopped known stop.ReadFault wants stops = (refl, stops.0, stops.1)
+  ends-stopped known (stop.TooBig file) wants stops = (refl, stops.0, stops.1)
+  ends-stopped known (stop.Full over) wants stops = (refl, stops.0, stops.1)
+  ends-stopped known stop.Memory wants stops = (refl, λ are. absurd (still-unknown known wants are))
 
-  pub known-stopped : (old known : Known) (stop : LearnStop) → LearnsBy (wanted_by edit) old known → StopsFor limits (wanted_by edit) known stop → AreKnown old (files_in edit) → EditsKnown limits edit old known (Err (edit_stopped stop))
-  known-stopped old known stop learns stops are =
-      let none = none-unknown old (files_in edit) are in
-      let same = learns-nothing (wanted_by edit) old known none learns in
-      still-stopped old known stop (ap (wanted_by edit) same ∙ none) same stops
+  pub known-stopped : (old known : Known) (stop : LearnStop) → LearnsBy (wanted_by edit) old known → IsSome (wanted_by edit known) → AreKnown old (files_in edit) → EditsKnown limits edit old known (Err (edit_stopped stop))
+  known-stopped old known stop learns wants are =
+      let same = learns-nothing (wanted_by edit) old known (none-unknown old (files_in edit) are) learns in
+      absurd (still-unknown known wants (subst (λ k. AreKnown k (files_in edit)) (sym same) are))
 
   pub told-stopped : (old known : Known) (files : Option Files) (stop : LearnStop) → IfSome files (λ files. ToldFor {A = Unit {0}} limits files (wanted_by edit) old known (Err stop)) → IfSome files (λ files. EditsTold limits files edit old known (Err (edit_stopped stop)))
   told-stopped old known None stop told = tt
@@ -162,7 +159,7 @@ module _ (limits : Limits) (edit : Edit) where
     stands-known old known new (Some files) (Err error.ReadFault) are edits told = absurd edits
     stands-known old known new (Some files) (Err (error.TooBig big)) are edits told = absurd edits
     stands-known old known new (Some files) (Err (error.Full over)) are edits told = absurd edits
-    stands-known old known new (Some files) (Err error.Memory) are edits told = λ file. ap (λ k. standing (known_map k) (text_on files) file) edits ∙ learnt-stands files old (learnt known) told file
+    stands-known old known new (Some files) (Err error.Memory) are edits told = λ file. ap (λ k. standing (known_map k) (text_on files) file) edits.1 ∙ learnt-stands files old (learnt known) told file
 
     pub stands-stopped : (old known : Known) (files : Option Files) (stop : LearnStop) → IfSome files (λ files. ToldFor {A = Unit {0}} limits files (wanted_by edit) old known (Err stop)) → IfSome files (λ files. EditStands (text_on files) edit old known (Err (edit_stopped stop)))
     stands-stopped old known None stop told = tt

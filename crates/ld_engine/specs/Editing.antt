@@ -38,14 +38,15 @@ edit_learning limits files edit known = learning_by limits files (wanted_by edit
 
 -- ---- over any shelf
 
--- an edit of known files is made, or refused and nothing changes; nor does it where memory is lacking
+-- an edit of known files is made, or refused and nothing changes; nor does it where memory is lacking for one that is
+-- not refused
 abbrev pub EditsKnown : Limits → Edit → Known → Known → Result Unit EditError → Type 0
 EditsKnown limits edit old new (Ok done) = (refusal_of limits.total_weight old edit ≡ None) × (new ≡ edited old edit)
 EditsKnown limits edit old new (Err (Refused why)) = (refusal_of limits.total_weight old edit ≡ Some why) × (new ≡ old)
 EditsKnown limits edit old new (Err ReadFault) = ⊥
 EditsKnown limits edit old new (Err (TooBig file)) = ⊥
 EditsKnown limits edit old new (Err (Full over)) = ⊥
-EditsKnown limits edit old new (Err Memory) = new ≡ old
+EditsKnown limits edit old new (Err Memory) = (refusal_of limits.total_weight old edit ≡ None) × (new ≡ old)
 
 -- the same of what is known once learning has ended; or a file that the edit names is still not known, it is the one at
 -- which learning stopped, and nothing is edited
@@ -55,7 +56,7 @@ EndsEdit limits edit known new (Err (Refused why)) = AreKnown known (files_in ed
 EndsEdit limits edit known new (Err ReadFault) = (new ≡ known) × IsSome (wanted_by edit known) × (length known < limits.texts)
 EndsEdit limits edit known new (Err (TooBig file)) = (new ≡ known) × (wanted_by edit known ≡ Some file) × (length known < limits.texts)
 EndsEdit limits edit known new (Err (Full over)) = (new ≡ known) × IsSome (wanted_by edit known) × IsLimit limits known over
-EndsEdit limits edit known new (Err Memory) = new ≡ known
+EndsEdit limits edit known new (Err Memory) = (new ≡ known) × (AreKnown known (files_in edit) → refusal_of limits.total_weight known edit ≡ None)
 
 -- what is known has grown by files that the edit names, each when it was the first that was not known; and then the edit
 -- ended

@@ -1,5 +1,5 @@
 // Edits of the texts.
-ghost use Rattle.std.specs.Prelude.{◌≡◌, ◌≤◌, ◌∷◌, [], Err, IfErr, IfSome, None, OnOk};
+ghost use Rattle.std.specs.Prelude.{◌≡◌, ◌≤◌, ◌∷◌, [], Err, IfErr, IfSome, IsSome, None, OnErr, OnOk};
 ghost use Rattle.std.specs.Option.{option_copied};
 ghost use Rattle.ld_io.specs.Faults.{HasRisen};
 ghost use Rattle.ld_texts.specs.Editing.{AreKnown, files_in};
@@ -85,7 +85,7 @@ impl Workspace {
     /// # Errors
     ///
     /// A stop of the learning, after which a file that the edit names is still not known; `Refused`
-    /// where the texts do not allow the edit; `Memory`.
+    /// where the texts do not allow the edit; `Memory`, where they do or a file is still not known.
     pub fn edit<S: Shelf>(&mut self, shelf: &mut S, edit: &Edit) -> Result<(), EditError>
         ensures limits { self.new.limits ≡ self.old.limits }
         ensures edits { Edits self.old.limits edit.now self.old.texts.known self.new.texts.known result }
@@ -114,6 +114,7 @@ impl Workspace {
         ensures limits { self.new.limits ≡ self.old.limits }
         ensures learns { LearnsBy (wanted_by edit.now) self.old.texts.known self.new.texts.known }
         ensures learnt { OnOk result (AreKnown self.new.texts.known (files_in edit.now)) }
+        ensures wants { OnErr result (IsSome (wanted_by edit.now self.new.texts.known)) }
         ensures stops { IfErr result (λ stop. StopsFor self.old.limits (wanted_by edit.now) self.new.texts.known stop) }
         ensures told { IfSome (S.files shelf.old) (λ files.
             ToldFor self.old.limits files (wanted_by edit.now) self.old.texts.known self.new.texts.known result) }

@@ -41,13 +41,13 @@ returns-in-Err-clause-edits g c =
     let limits = c.args.self.now.limits in
     let edit = c.args.edit.now in
     let known = c.learn_named.new.self.texts.known in
-    subst (λ e. Edits limits edit c.args.self.now.texts.known known (Err e)) (sym c.stopped_by.ensures) (record { known = known; learns = c.in-Err.ensures.learns; ends = ends-stopped limits edit known c.in-Err.stop c.in-Err.ensures.stops })
+    subst (λ e. Edits limits edit c.args.self.now.texts.known known (Err e)) (sym c.stopped_by.ensures) (record { known = known; learns = c.in-Err.ensures.learns; ends = ends-stopped limits edit known c.in-Err.stop c.in-Err.ensures.wants c.in-Err.ensures.stops })
 
 pub returns-in-Err-clause-known : goal.returns-in-Err-clause-known
 returns-in-Err-clause-known g c are =
     let old = c.args.self.now.texts.known in
     let known = c.learn_named.new.self.texts.known in
-    subst (λ e. EditsKnown c.args.self.now.limits c.args.edit.now old known (Err e)) (sym c.stopped_by.ensures) (known-stopped c.args.self.now.limits c.args.edit.now old known c.in-Err.stop c.in-Err.ensures.learns c.in-Err.ensures.stops are)
+    subst (λ e. EditsKnown c.args.self.now.limits c.args.edit.now old known (Err e)) (sym c.stopped_by.ensures) (known-stopped c.args.self.now.limits c.args.edit.now old known c.in-Err.stop c.in-Err.ensures.learns c.in-Err.ensures.wants are)
 
 pub returns-in-Err-clause-told : goal.returns-in-Err-clause-told
 returns-in-Err-clause-told g c =

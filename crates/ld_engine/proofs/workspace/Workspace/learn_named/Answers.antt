@@ -1,5 +1,5 @@
-use Rattle.std.proofs.Common.{◌≡◌, subst, ◌∙◌, arith, Ok, Err, Some, None}
-use Rattle.std.specs.Prelude.{IfSome}
+use Rattle.std.proofs.Common.{◌≡◌, ap, subst, ◌∙◌, arith, Ok, Err, Some, None}
+use Rattle.std.specs.Prelude.{IfSome, is_some}
 use Rattle.ld_engine.specs.Editing.{wanted_by}
 use Rattle.ld_engine.specs.Keeping.{Tells}
 use Rattle.ld_engine.specs.declared.limits.Limits.{Limits}
@@ -40,6 +40,12 @@ returns-in-Err-clause-told g c =
     let step = told-first c.loop-file.self.limits wants file mid new (g.S.Shelf.files c.loop-file.shelf) (Err c.in-Err.stop) next c.in-Err.ensures.told in
     let step' : IfSome (g.S.Shelf.files c.args.shelf.now) (λ files. Tells limits files wants mid new (Err c.in-Err.stop)) = subst (λ o. IfSome o (λ files. Tells limits files wants mid new (Err c.in-Err.stop))) i.same (subst (λ (l : Limits). IfSome (g.S.Shelf.files c.loop-file.shelf) (λ files. Tells l files wants mid new (Err c.in-Err.stop))) i.limits step) in
     told-stop (Unit {0}) limits wants c.args.self.now.texts.known mid new (g.S.Shelf.files c.args.shelf.now) c.in-Err.stop i.told step'
+
+pub returns-in-Err-clause-wants : goal.returns-in-Err-clause-wants
+returns-in-Err-clause-wants g c =
+    let wants = wanted_by c.args.edit.now in
+    let next : wants c.loop-file.self.texts.known ≡ Some c.in-Some.file.now = wants-now wants c.texts.result.now c.loop-file.self.texts (Some c.in-Some.file.now) c.texts.ensures.texts c.in-Some.ensures in
+    ap (λ known. is_some (wants known)) c.in-Err.ensures.learns ∙ ap is_some next
 
 pub returns-clause-told : goal.returns-clause-told
 returns-clause-told g c =
