@@ -9,6 +9,8 @@ pub mod Learned
 pub mod Wanted
 pub mod Roots
 pub mod Loaded
+pub mod Grown
+pub mod First
 pub mod Mains
 pub mod Settled
 pub mod Standing

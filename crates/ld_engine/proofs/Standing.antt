@@ -18,6 +18,7 @@ use Rattle.ld_texts.specs.declared.change.Over.TheVariants.{Files as TooMany}
 use Rattle.ld_engine.specs.Laws.{LearningStands}
 use Rattle.ld_engine.specs.Learning.{bytes_on, fetched, Full, learn, learning_by, learning_on, Learnt, learnt, Stop, stopped, text_by, text_on, TooBig, unless_over, wanted_for, Wanting}
 use Rattle.ld_engine.specs.declared.limits.Limits.{Limits}
+use Rattle.ld_engine.proofs.Grown.{learning-keeps}
 
 -- ---- What is wanted is not known.
 
@@ -102,37 +103,14 @@ module _ (stays : LearningStays) (limits : Limits) (files : Files) (wants : Want
   abbrev Stands : Known → Known → Type 0
   Stands old now = (file : FileId) → standing (known_map now) (text_on files) file ≡ standing (known_map old) (text_on files) file
 
-  step-stands : (further : Known → Learnt) → ((known : Known) → Stands known (further known).known) → (known : Known) (next : FileId) → wants known ≡ Some next → (result : Result Text Stop) → fetched limits known next (bytes_on files next) ≡ result → Stands known (learning_on further known next result).known
-  step-stands further all known next is (Err stop) told file = refl
-  step-stands further all known next is (Ok text) told file =
+  step-stands : (old known : Known) (next : FileId) (text : Text) → wants known ≡ Some next → fetched limits known next (bytes_on files next) ≡ Ok text → Stands old known → Stands old (known ++ (next, text) ∷ [])
+  step-stands old known next text is told stood file =
       let same : text ≡ text_on files next = fetched-is limits known next (bytes_on files next) text told in
-      all (known ++ (next, text) ∷ []) file
-      ∙ ap (λ t. standing (known_map (known ++ (next, t) ∷ [])) (text_on files) file) same
-      ∙ stays known (text_on files) next file (new known next is)
-
-  -- what the file that is wanted makes of it
-  abbrev at_limit : Known → Option FileId → Learnt
-  at_limit known next = elim next [ None ↦ learnt known | Some file ↦ stopped known (Full (TooMany (length known))) ]
-
-  abbrev below_limit : (Known → Learnt) → Known → Option FileId → Learnt
-  below_limit further known next =
-      elim next [ None ↦ learnt known | Some file ↦ learning_on further known file (fetched limits known file (bytes_on files file)) ]
-
-  learn-stands : (left : ℕ) (known : Known) → Stands known (learn left limits files wants known).known
-  learn-stands zero known = by (wants known)
-    where
-      by : (next : Option FileId) → Stands known (at_limit known next).known
-      by None file = refl
-      by (Some next) file = refl
-  learn-stands (suc left) known = by (learn-stands left) (wants known) refl
-    where
-      by : ((known : Known) → Stands known (learn left limits files wants known).known) → (next : Option FileId) → wants known ≡ next → Stands known (below_limit (learn left limits files wants) known next).known
-      by further None is file = refl
-      by further (Some next) is file = step-stands (learn left limits files wants) further known next is (fetched limits known next (bytes_on files next)) refl file
+      ap (λ t. standing (known_map (known ++ (next, t) ∷ [])) (text_on files) file) same
+      ∙ stays known (text_on files) next file (new known next is) ∙ stood file
 
   pub learning_by-stands : (known : Known) → Stands known (learning_by limits files wants known).known
-  unfolding learning_by
-  learning_by-stands known = learn-stands (limits.texts - length known) known
+  learning_by-stands known = learning-keeps limits files wants (Stands known) (step-stands known) known (λ file. refl)
 
 pub learning-stands : NumbersAgree → FindsExactly → LearningStays → LearningStands
 learning-stands numbers finds stays limits files root known = learning_by-stands stays limits files (wanted_for root) (wanted-new numbers finds root) known

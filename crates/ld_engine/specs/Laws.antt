@@ -1,20 +1,23 @@
 -- What answers say: over the known texts, of the texts as they stand, and of their steps; and what learning leaves.
-use Rattle.std.specs.Prelude.{◌≡◌, ℕ, List, [], length, Some, None, IsSome, Ok}
+use Rattle.std.specs.Prelude.{◌≡◌, ℕ, List, [], length, Some, None, IsSome, Result, Ok}
 use Rattle.ld_io.specs.Shelf.{Files}
-use Rattle.ld_mpd.specs.Blocks.{text_blocks}
+use Rattle.ld_mpd.specs.Blocks.{text_blocks, text_of}
 use Rattle.ld_names.specs.Finding.{IsThere}
 use Rattle.ld_names.specs.Standing.{Known, Text, known_map, standing}
 use Rattle.ld_names.specs.declared.file.FileId.{FileId}
 use Rattle.ld_names.specs.declared.file.TextId.{TextId}
 use Rattle.ld_texts.specs.Known.{AreDistinct, id_of}
 use Rattle.ld_texts.specs.Reach.{wanted}
+use Rattle.ld_texts.specs.declared.edit.Edit.{Edit}
 use Rattle.ld_colour.specs.declared.colour.Colour.{Colour}
 use Rattle.ld_steps.specs.Laws.{AreSteps}
 use Rattle.ld_entry.specs.NumberedTexts.{known_texts, NumberedTexts, standing_texts}
-use Rattle.ld_engine.specs.Learning.{Wanting, learning, learning_by, text_on}
-use Rattle.ld_engine.specs.Loading.{load, main_of}
+use Rattle.ld_engine.specs.Editing.{Edits}
+use Rattle.ld_engine.specs.Learning.{LearnsBy, Wanting, learning, learning_by, text_on}
+use Rattle.ld_engine.specs.Loading.{BeginsWith, load, main_of}
 use Rattle.ld_engine.specs.Stepping.{answer_with_steps}
 use Rattle.ld_engine.specs.declared.asking.Answer.{Answer}
+use Rattle.ld_engine.specs.declared.editing.EditError.{EditError}
 use Rattle.ld_engine.specs.declared.limits.Limits.{Limits}
 
 -- Where nothing is wanted for a root, recursive expansion of the known texts answers it as that of the texts as they
@@ -40,3 +43,13 @@ pub record MainIsThere : Type 0 where
   pub one : (own bytes : List ℕ) → IsSome (main_of (text_blocks own bytes))
   pub there : (limits : Limits) (own bytes : List ℕ) (known : Known) (main : FileId) → load limits [] (text_blocks own bytes) ≡ Ok known → main_of (text_blocks own bytes) ≡ Some main → IsThere (known_map known) main
   pub stays : (limits : Limits) (files : Files) (wants : Wanting) (known : Known) (file : FileId) → IsThere (known_map known) file → IsThere (known_map (learning_by limits files wants known).known) file
+
+-- Once a file is loaded its main model is the first that is known, with the file's own text: its number is 0. It stays
+-- the first, whatever is learnt; and every number stays, whatever is learnt and whichever edits are made or refused. So
+-- a query of text 0 and one of the main model by its number are of the same text.
+pub record MainIsFirst : Type 0 where
+  pub loaded : (limits : Limits) (own bytes : List ℕ) (known : Known) (main : FileId) → load limits [] (text_blocks own bytes) ≡ Ok known → main_of (text_blocks own bytes) ≡ Some main → BeginsWith main (text_of own bytes) known
+  pub says : (file : FileId) (lines : List (List ℕ)) (known : Known) → BeginsWith file lines known → (id_of known file ≡ Some 0) × (known_map known file ≡ Some (Some lines))
+  pub grown : (wants : Wanting) (old new : Known) → LearnsBy wants old new → (file : FileId) (lines : List (List ℕ)) → BeginsWith file lines old → BeginsWith file lines new
+  pub learnt : (limits : Limits) (files : Files) (wants : Wanting) (known : Known) (file : FileId) (id : ℕ) → id_of known file ≡ Some id → id_of (learning_by limits files wants known).known file ≡ Some id
+  pub edits : (limits : Limits) (edit : Edit) (old new : Known) (result : Result Unit EditError) → Edits limits edit old new result → (file : FileId) (id : ℕ) → id_of old file ≡ Some id → id_of new file ≡ Some id

@@ -57,6 +57,10 @@ abbrev pub load_refused : LearnError → LoadError
 load_refused (Refused over) = Full over
 load_refused NoMemory = Memory
 
+-- the file is the first that is known, and it is there with these lines
+abbrev pub BeginsWith : FileId → List (List ℕ) → Known → Type 0
+BeginsWith file lines known = (rest : Known) × (known ≡ (file, Some lines) ∷ rest)
+
 -- no file beside the model has the name of one of these texts
 abbrev pub AreNew : Known → Blocks → Type 0
 AreNew known [] = ⊤

@@ -1,10 +1,10 @@
-ghost use Rattle.ld_engine.specs.Laws.{LearningStands, MainIsThere, StandsForRoots, StepsOfAnswers};
+ghost use Rattle.ld_engine.specs.Laws.{LearningStands, MainIsFirst, MainIsThere, StandsForRoots, StepsOfAnswers};
 
 use ld_entry::standing_law;
 use ld_mpd::block_laws;
 use ld_names::{file_laws, learning_law, lookup_law};
 use ld_steps::part_law;
-use ld_texts::number_law;
+use ld_texts::{edit_law, number_law};
 
 /// Where nothing is wanted for a root, the known texts answer it as the texts as they stand do.
 pub fn root_law()
@@ -40,4 +40,15 @@ pub fn main_law()
     block_laws();
     file_laws();
     learning_law();
+}
+
+/// The main model is the first of the known texts, with number 0, and stays so, whatever is learnt;
+/// and every number stays, whatever is learnt and edited.
+pub fn first_law()
+    ensures { MainIsFirst }
+{
+    block_laws();
+    file_laws();
+    ld_texts::learning_law();
+    edit_law();
 }
