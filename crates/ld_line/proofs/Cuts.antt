@@ -1,5 +1,5 @@
 -- Cutting a text at its line feeds, one piece at a time.
-use Rattle.std.proofs.Common.{◌≡◌, ◌≢◌, ◌<◌, ◌+◌, ℕ, Bool, true, false, List, [], ◌∷◌, ◌++◌, cond, length, take, drop, map, refl, ap, sym, ◌∙◌, arith, tests, append_assoc, ◌==◌, Some, None}
+use Rattle.std.proofs.Common.{◌≡◌, ◌≢◌, ◌<◌, ◌+◌, ℕ, Bool, true, false, List, [], ◌∷◌, ◌++◌, cond, length, take, drop, map, refl, ap, sym, ◌∙◌, arith, tests, ◌==◌, Some, None}
 use Rattle.std.specs.List.{slice_split, onto_first, position_or_len}
 use Rattle.std.specs.Str.Lines.{strip_carriage_return}
 use Rattle.std.proofs.lemmas.List.Splits.{slice_split_none, slice_split_first}
@@ -56,11 +56,6 @@ pub lines_from-none : (text : List ℕ) → length text ≡ 0 → lines_from tex
 unfolding lines_from
 lines_from-none [] ends = refl
 lines_from-none (x ∷ xs) ends = absurd (omega arith)
-
--- one line more of the whole
-pub lines-step : (old new now more whole : List (List ℕ)) (line : List ℕ) → now ≡ line ∷ more → new ≡ old ++ line ∷ [] → old ++ now ≡ whole → new ++ more ≡ whole
-lines-step old new now more whole line first pushed so_far =
-    ap (λ ls. ls ++ more) pushed ∙ append_assoc old (line ∷ []) more ∙ ap (λ ls. old ++ ls) (sym first) ∙ so_far
 
 -- a text with one more line to come has lines
 pub lines-some : (old now more whole : List (List ℕ)) (line : List ℕ) → now ≡ line ∷ more → old ++ now ≡ whole → whole ≢ []

@@ -13,7 +13,7 @@ use Rattle.ld_line.specs.Colour.{colour_word}
 use Rattle.ld_line.specs.Kind.{points_in}
 use Rattle.ld_line.specs.Reading.{draw_of, drawn}
 use Rattle.ld_line.specs.Field.{after_field, after_fields, fields}
-use Rattle.ld_line.specs.Numbers.{angles_of, numbers_of, onto_numbers, placement_of, points_of}
+use Rattle.ld_line.specs.Numbers.{numbers_of, onto_numbers, points_of}
 use Rattle.ld_line.specs.Series.{ranged}
 
 -- the numbers so far, which may be out of range, before those that are still to be read
@@ -47,16 +47,6 @@ pub points_of-taken : (numbers : List ℤ) (count : ℕ) → ((k : ℕ) → coun
 points_of-taken numbers count zeros =
     let at = get_or-taken numbers count zeros in
     rw (at 0, at 1, at 2, at 3, at 4, at 5, at 6, at 7, at 8, at 9, at 10, at 11) refl
-
-pub placement_of-taken : (numbers : List ℤ) (count : ℕ) → ((k : ℕ) → count ≤ k → get_or numbers k (pos 0) ≡ pos 0) → placement_of (take count numbers) ≡ placement_of numbers
-placement_of-taken numbers count zeros =
-    let at = get_or-taken numbers count zeros in
-    rw (at 0, at 1, at 2, at 3, at 4, at 5, at 6, at 7, at 8, at 9, at 10, at 11) refl
-
-pub angles_of-taken : (numbers : List ℤ) (count : ℕ) → ((k : ℕ) → count ≤ k → get_or numbers k (pos 0) ≡ pos 0) → angles_of (take count numbers) ≡ angles_of numbers
-angles_of-taken numbers count zeros =
-    let at = get_or-taken numbers count zeros in
-    rw (at 0, at 1, at 2) refl
 
 -- what a loop over the next numbers keeps: what was read and what is left make up the whole
 pub record Kept (i count : ℕ) (line rest : List ℕ) (values : List ℤ) (in_range : Bool) : Type 0 where

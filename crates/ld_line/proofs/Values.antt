@@ -1,5 +1,5 @@
 -- Numbers, digit by digit.
-use Rattle.std.proofs.Common.{◌≡◌, ◌<◌, ◌≤◌, ◌+◌, ◌*◌, ◌^◌, ℕ, Bool, true, false, List, [], ◌∷◌, length, sym, ap, ◌∙◌, arith, tests, Some, None}
+use Rattle.std.proofs.Common.{◌≡◌, ◌<◌, ◌≤◌, ◌+◌, ◌*◌, ◌^◌, ℕ, Bool, true, List, [], ◌∷◌, length, sym, ap, ◌∙◌, arith, tests, Some, None}
 use Rattle.std.proofs.Math.Nat.{mul-le-mul_left}
 use Rattle.std.specs.Char.{is_digit, digit_value}
 use Rattle.std.specs.List.{list_all}
@@ -11,9 +11,6 @@ pub digits_value_after-ge : (radix n : ℕ) (ds : List ℕ) → 1 ≤ radix → 
 digits_value_after-ge radix n [] some = omega arith
 digits_value_after-ge radix n (d ∷ ds) some =
     omega (arith, digits_value_after-ge radix (n * radix + digit_value d) ds some, mul-le-mul_left n some)
-
-pub number_of-no_digit : (radix most : ℕ) (ds : List ℕ) → list_all (λ digit. is_digit digit radix) ds ≡ false → number_of radix most ds ≡ None
-number_of-no_digit radix most ds other = grind (arith, tests)
 
 pub number_of-big : (radix most : ℕ) (ds : List ℕ) → 2 ^ 32 ≤ digits_value radix ds → number_of radix most ds ≡ None
 number_of-big radix most ds big = grind (arith, tests)

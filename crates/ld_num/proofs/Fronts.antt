@@ -26,16 +26,6 @@ use Rattle.ld_num.proofs.Values.{all_digits-append, value-append, value-split, v
 
 -- ---- digits at the front
 
-pub led_none : (text : List ℕ) (start : ℕ) → IsLed text start start text 0
-led_none text start =
-    record {
-      digits = [];
-      are_digits = tt;
-      few = omega arith;
-      text_is = refl;
-      number_is = refl;
-    }
-
 pub led_more : (text rest more : List ℕ) (start number most byte : ℕ) → IsLed text start number rest most → rest ≡ byte ∷ more → is_ascii_digit byte ≡ true → IsLed text start (number * 10 + (byte - 48)) more (most + 1)
 led_more text rest more start number most byte led is digit =
     let in_range : IsInRange 48 57 byte = grind (arith, nat_tests) in
