@@ -62,10 +62,6 @@ drop-through (link ∷ links) used points there is =
 
 -- ---- One entry.
 
--- the points of a kind, those that are not used zero
-abbrev EndsInZeros : Kind → List Point → Type 0
-EndsInZeros kind points = drop (points_in kind) points ≡ replicate (4 - points_in kind) zero_point
-
 at_points-lawful : (entry : List Point → Entry) (there : Result (List Point) Source) → ((points : List Point) → there ≡ Ok points → IsLawfulEntry (entry points)) → IsLawfulOutcome (at_points entry there)
 at_points-lawful entry (Ok points) lawful = lawful points refl
 at_points-lawful entry (Err source) lawful = tt

@@ -1,10 +1,13 @@
 ghost use Rattle.std.specs.Prelude.{◌≡◌};
 ghost use Rattle.ld_line.specs.Kind.{points_in};
+ghost use Rattle.ld_colour.specs.Colour.{under};
+ghost use Rattle.ld_entry.specs.declared.entry.Entry.TheVariants.{Part};
 ghost use Rattle.ld_entry.specs.Carrying.{above_of, carried_entry, moved_points, winding_turned};
 
-use crate::entry::{Entry, Fault, Outer, What};
-use ld_colour::under;
+use crate::entry::{Entry, Fault, Outer, Source, What};
+use ld_colour::{Colour, under};
 use ld_line::{Kind, Winding};
+use ld_names::TextId;
 use ld_num::{Placement, Point, place};
 
 /// What a reference makes of an entry of the file that it refers to: its used points go through
@@ -50,14 +53,19 @@ pub fn carry(outer: &Outer, entry: &Entry) -> Result<Entry, Fault>
             file,
             colour,
             source,
-        } => {
-            let colour = under(colour, outer.colour);
-            Ok(Entry::Part {
-                file,
-                colour,
-                source,
-            })
-        }
+        } => Ok(carry_part(outer, file, colour, source)),
+    }
+}
+
+#[inline]
+fn carry_part(outer: &Outer, file: TextId, colour: Colour, source: Source) -> Entry
+    ensures { result ≡ Part file (under colour outer.now.colour) source }
+{
+    let colour = under(colour, outer.colour);
+    Entry::Part {
+        file,
+        colour,
+        source,
     }
 }
 
