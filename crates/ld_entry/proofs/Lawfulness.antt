@@ -1,5 +1,5 @@
 -- Below a lawful colour all entries are lawful.
-use Rattle.std.proofs.Common.{◌≡◌, ◌-◌, ◌&&◌, ℕ, zero, suc, Bool, true, false, not, cond, List, [], ◌∷◌, drop, replicate, Option, Some, None, Result, Ok, Err, refl, ap, sym, ◌∙◌}
+use Rattle.std.proofs.Common.{◌≡◌, ◌-◌, ◌&&◌, ℕ, zero, suc, Bool, true, false, not, cond, List, [], ◌∷◌, drop, Option, Some, None, Result, Ok, Err, refl, ap, sym, ◌∙◌}
 use Rattle.std.specs.Prelude.{All, IfOk, slice_get, ⊤}
 use Rattle.std.proofs.lemmas.List.Elements.{All-append, All-cons, All-head, All-nil, All-tail}
 use Rattle.ld_names.specs.Standing.{Map}
@@ -9,7 +9,6 @@ use Rattle.ld_num.specs.Placing.{moved}
 use Rattle.ld_num.specs.declared.point.Placement.{Placement}
 use Rattle.ld_num.specs.declared.point.Point.{Point}
 use Rattle.ld_line.specs.Kind.{points_in}
-use Rattle.ld_line.specs.declared.line.Kind.{Kind}
 use Rattle.ld_line.specs.declared.line.Line.{Line}
 use Rattle.ld_line.specs.declared.line.Line.TheVariants.{Bfc, Blank, Comment, Draw, Org, Ref, Rot, Step}
 use Rattle.ld_line.specs.declared.line.Line.TheVariants as line
@@ -20,7 +19,7 @@ use Rattle.ld_colour.specs.Laws.{LawfulColours}
 use Rattle.ld_entry.proofs.Zeros.{HasZeros, HaveZeros, lines-zeros}
 use Rattle.ld_entry.specs.Answers.{answer, entries_before, first_fault, left_below, unless_too_many}
 use Rattle.ld_entry.specs.Carrying.{Above, at_points, carried_entry, colour_above, fault_at, Link, moved_points, onto_moved, or_source, Outcome, through, through_link, winding_turned}
-use Rattle.ld_entry.specs.Lawful.{IsLawfulEntry, IsLawfulOutcome, zero_point}
+use Rattle.ld_entry.specs.Lawful.{IsLawfulEntry, IsLawfulOutcome}
 use Rattle.ld_entry.specs.Laws.{LawfulLaw}
 use Rattle.ld_entry.specs.NumberedTexts.{standing_lines, lines_of_file, texts_over}
 use Rattle.ld_entry.specs.Outcomes.{all, all_by_line, concatenation, Context, context_below, context_of, Enter, file_outcomes, found_outcomes, is_on_way, line_outcomes, outcomes_by_line, outcomes_from, outer_of, own_entry, part_outcomes}
