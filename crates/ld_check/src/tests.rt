@@ -3,9 +3,9 @@ ghost use Rattle.std.specs.Prelude.{◌≡◌, [], ◌∷◌, codes};
 ghost use Rattle.ld_check.specs.Findings.{findings_of};
 ghost use Rattle.ld_check.specs.Rows.{bad_findings, bad_lines, car_lines, file_of, found_at};
 
-use crate::check;
+use crate::{Finding, check};
 use ld_names::{FileId, Folder, Lines, List, normal};
-use std::alloc::Global;
+use std::alloc::{AllocError, Global};
 use std::test::Fail;
 
 // The definitions, by computing.
@@ -112,29 +112,48 @@ fn push_piece(alloc: Global, piece: &str, into: &mut Lines) -> Result<(), Fail> 
     Ok(())
 }
 
+fn push_pieces(alloc: Global, pieces: &str, into: &mut Lines) -> Result<(), Fail> {
+    for piece in pieces.split("|") {
+        push_piece(alloc, piece, into)?;
+    }
+    Ok(())
+}
+
+fn lines_of_row(alloc: Global, row: &str) -> Result<Lines, Fail> {
+    let mut lines = List::new(alloc);
+    if let Some((_, pieces)) = row.split_once("|") {
+        push_pieces(alloc, pieces, &mut lines)?;
+    }
+    Ok(lines)
+}
+
+fn file_of_row(alloc: Global, row: &str) -> Result<FileId, Fail> {
+    let (name, _) = row.split_once("|").unwrap_or((row, ""));
+    Ok(FileId {
+        folder: Folder::Parts,
+        name: normal(alloc, name.as_bytes())?,
+    })
+}
+
+fn told(alloc: Global, findings: &[Finding]) -> Result<String, AllocError> {
+    let mut text = String::new(alloc);
+    for finding in findings {
+        let before = if text.is_empty() { "" } else { ", " };
+        text.push_str(format!(in alloc; "{before}{} {}", finding.line, finding.rule)?.as_str())?;
+    }
+    Ok(text)
+}
+
 #[test]
 fn parts_are_checked(rt: HostRuntime) -> Result<(), Fail> {
     let alloc = rt.alloc();
     for row in TEXTS.lines() {
         let (text, want) = row.split_once(" => ").ok_or("a row without =>")?;
-        let (name, pieces) = text.split_once("|").unwrap_or((text, "none"));
-        let mut lines = List::new(alloc);
-        for piece in pieces.split("|") {
-            if piece != "none" {
-                push_piece(alloc, piece, &mut lines)?;
-            }
-        }
+        let file = file_of_row(alloc, text)?;
+        let lines = lines_of_row(alloc, text)?;
         assert!(rt; lines.as_slice().len() < 100);
-        let file = FileId {
-            folder: Folder::Parts,
-            name: normal(alloc, name.as_bytes())?,
-        };
-        let mut got = String::new(alloc);
-        for finding in &check(alloc, &file, lines.as_slice())? {
-            let before = if got.is_empty() { "" } else { ", " };
-            got.push_str(format!(in alloc; "{before}{} {}", finding.line, finding.rule)?.as_str())?;
-        }
-        assert_eq!(rt; got.as_str(), want, "{text}");
+        let findings = check(alloc, &file, lines.as_slice())?;
+        assert_eq!(rt; told(alloc, &findings)?.as_str(), want, "{text}");
     }
     Ok(())
 }

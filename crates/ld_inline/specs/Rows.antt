@@ -1,7 +1,6 @@
 -- Worked examples of inlined texts.
 use Rattle.std.specs.Prelude.{◌*◌, ◌==◌, ℕ, pos, Bool, false, List, [], ◌∷◌, Some, None, if◌then◌else◌}
 use Rattle.ld_num.specs.declared.point.Point.{Point}
-use Rattle.ld_line.specs.declared.line.Angles.{Angles}
 use Rattle.ld_line.specs.declared.line.Kind.{Kind}
 use Rattle.ld_line.specs.declared.line.Winding.{Winding}
 use Rattle.ld_colour.specs.Table.{Counting}
@@ -31,11 +30,8 @@ entry kind certified clip winding colour points = Drawn kind certified clip wind
 abbrev pub step : ℕ → ℕ → List Turn → StepPart
 step first end view = record { first = first; end = end; view = view }
 
-abbrev pub relative : Angles → Turn
-relative angles = record { absolute = false; angles = angles }
-
 abbrev pub turned_by : ℕ → ℕ → Turn
-turned_by x y = relative (record { x = pos (x * 1000000); y = pos (y * 1000000); z = pos 0 })
+turned_by x y = record { absolute = false; angles = record { x = pos (x * 1000000); y = pos (y * 1000000); z = pos 0 } }
 
 -- the steps of the worked example steps
 abbrev pub six_steps : Turn → Turn → List StepPart

@@ -1,21 +1,21 @@
-//! Worked texts without references.
-ghost use Rattle.std.specs.Prelude.{◌≡◌, ◌<◌, ◌≤◌, ◌++◌, ◌∷◌, [], Err, IfOk, Ok, OnOk, codes, length, true, false};
+//! Worked texts without references. Those with rotation steps are run by the command's tests.
+ghost use Rattle.std.specs.Prelude.{◌≡◌, ◌∷◌, [], Err, IfOk, Ok, codes, length, true, false};
 ghost use Rattle.ld_line.specs.Word.{ended};
 ghost use Rattle.ld_line.specs.declared.line.Kind.TheVariants.{Line2, Opt, Quad, Tri};
 ghost use Rattle.ld_line.specs.declared.line.Winding.TheVariants.{Ccw, Cw};
 ghost use Rattle.ld_colour.specs.declared.colour.Colour.TheVariants.{Code, Direct, Edge, EdgeOf, Main};
 ghost use Rattle.ld_steps.specs.Laws.{AreSteps};
-ghost use Rattle.ld_inline.specs.Rows.{along, colours, corner_points, entry, no_colours, relative, six_steps, step, turned_by};
+ghost use Rattle.ld_inline.specs.Rows.{along, colours, corner_points, entry, no_colours, six_steps, step, turned_by};
 ghost use Rattle.ld_inline.specs.Text.{inlined_text};
 
 use crate::inlining::NO_POINTS;
 use crate::{InlineError, inline};
 use ld_colour::{Colour, Table};
 use ld_entry::{Entry, Source};
-use ld_line::{Angles, Kind, Line, RotWord, Winding, read_line};
+use ld_line::{Kind, Line, Winding, read_line};
 use ld_names::{List, TextId};
 use ld_num::Point;
-use ld_steps::{StepPart, Turn};
+use ld_steps::StepPart;
 use std::alloc::{AllocError, Global};
 use std::test::Fail;
 
@@ -30,13 +30,6 @@ m cert clip cw 3 16 0 0 0 1 0 0 0 1 0; m cert noclip ccw 3 16 0 0 0 1 0 0 0 1 0 
 e4 nocert clip ccw 2 24 0 0 0 1.5 0 0; e1 nocert clip ccw 2 24 0 0 0 1 0 0; 1 cert clip ccw 2 24 0 0 0 1 0 0 => 0 BFC NOCLIP|2 0x2333333 0 0 0 1.5 0 0|2 0x205131D 0 0 0 1 0 0|0 BFC CLIP|2 1 0 0 0 1 0 0|0 STEP
 d16744448 cert clip cw 4 16 0 0 0 1 0 0 1 1 0 0 -1 0; E cert clip cw 5 24 0 0 0 1 0 0 2 0 0 3 0 0; 4 cert clip ccw 1 16 0 0 0 1 0 0 0 1 0 0 0 1 a.dat => 4 0x2FF8000 0 -1 0 1 1 0 1 0 0 0 0 0|5 24 0 0 0 1 0 0 2 0 0 3 0 0|0 STEP
 m nocert clip cw 3 16 0 0 0 1 0 0 0 1 0; m nocert noclip ccw 2 16 0 0 0 1 0 0 => 0 BFC NOCLIP|3 16 0 1 0 1 0 0 0 0 0|2 16 0 0 0 1 0 0|0 STEP";
-
-// The worked example steps.
-const STEPPED: &str =
-    "E nocert clip ccw 2 24 0 0 0 1 0 0; E nocert clip ccw 2 24 0 0 0 3 0 0; E nocert clip ccw 2 24 0 0 0 4 0 0; E nocert clip ccw 2 24 0 0 0 2 0 0";
-
-const STEPPED_TEXT: &str =
-    "0 BFC NOCLIP|2 24 0 0 0 1 0 0|0 STEP|0 STEP|0 ROTSTEP 0 45 0 REL|0 ROTSTEP 10 0 0 ADD|2 24 0 0 0 3 0 0|2 24 0 0 0 4 0 0|0 ROTSTEP END|2 24 0 0 0 2 0 0|0 STEP";
 
 fn colour_of(word: &str) -> Result<Colour, Fail> {
     if word == "m" {
@@ -54,18 +47,16 @@ fn colour_of(word: &str) -> Result<Colour, Fail> {
     }
 }
 
-// What a line shows, or how it turns the view.
+// What a line shows.
 #[derive(Clone, Copy)]
 enum Shown {
     Drawn(Kind, [Point; 4]),
-    Turned(Angles),
     Other,
 }
 
 fn read_shown(line: Line) -> Shown {
     match line {
         Line::Draw { kind, points, .. } => Shown::Drawn(kind, points),
-        Line::Rot(RotWord::Rel(angles)) => Shown::Turned(angles),
         Line::Ref { name, .. } => {
             drop(name);
             Shown::Other
@@ -135,64 +126,37 @@ fn text_of(alloc: Global, lines: &str) -> Result<Vec<u8>, AllocError> {
     Ok(text)
 }
 
-fn push_step(
-    alloc: Global,
-    first: u32,
-    end: u32,
-    turns: &[Turn],
-    steps: &mut Vec<StepPart>,
-) -> Result<(), AllocError>
-    ensures { OnOk result (steps.new.items ≡ steps.old.items ++ step first end turns.now ∷ []) }
-{
-    let view = List::from_slice(alloc, turns)?;
-    steps.push(StepPart { first, end, view })?;
-    Ok(())
-}
-
 #[tactic(auto, using(crate::proofs::Worked::one_step))]
 fn one_step(alloc: Global, count: u32) -> Result<Vec<StepPart>, AllocError>
     ensures { IfOk result (λ steps. AreSteps count steps.items) }
 {
     let mut steps = Vec::new(alloc);
-    push_step(alloc, 0, count, &[], &mut steps)?;
+    steps.push(StepPart {
+        first: 0,
+        end: count,
+        view: List::new(alloc),
+    })?;
     Ok(steps)
 }
 
-fn relative(angles: Angles) -> Turn
-    ensures { result ≡ relative angles }
-{
-    Turn {
-        absolute: false,
-        angles,
+fn text_in_one_step(alloc: Global, entries: &[Entry], table: &Table) -> Result<Vec<u8>, Fail> {
+    if entries.len() >= 100 {
+        return Err("too many entries".into());
+    }
+    let steps = one_step(alloc, entries.len() as u32)?;
+    match inline(alloc, entries, &steps, table) {
+        Ok(text) => Ok(text),
+        Err(_) => Err("not inlined".into()),
     }
 }
 
-fn six_steps(alloc: Global, turn: Turn, tilt: Turn) -> Result<Vec<StepPart>, AllocError>
-    ensures { IfOk result (λ steps. steps.items ≡ six_steps turn tilt) }
-{
-    let turns = [turn, tilt];
-    let mut steps = Vec::new(alloc);
-    push_step(alloc, 0, 1, &[], &mut steps)?;
-    push_step(alloc, 1, 1, &[], &mut steps)?;
-    push_step(alloc, 1, 1, &turns[..1], &mut steps)?;
-    push_step(alloc, 1, 1, &turns, &mut steps)?;
-    push_step(alloc, 1, 3, &[], &mut steps)?;
-    push_step(alloc, 3, 4, &[], &mut steps)?;
-    Ok(steps)
-}
-
-fn stepped(alloc: Global, turn: Angles, tilt: Angles) -> Result<Vec<StepPart>, AllocError>
-    ensures { IfOk result (λ steps. AreSteps 4 steps.items) }
-{
-    let steps = six_steps(alloc, relative(turn), relative(tilt))?;
-    Ok(steps)
-}
-
-fn angles_of(alloc: Global, line: &str) -> Result<Angles, Fail> {
-    match read_shown(read_line(alloc, line.as_bytes())?) {
-        Shown::Turned(angles) => Ok(angles),
-        _ => Err("no turn".into()),
+fn lacks_four(alloc: Global, entries: &[Entry], table: &Table) -> Result<bool, Fail> {
+    if entries.len() >= 100 {
+        return Err("too many entries".into());
     }
+    let steps = one_step(alloc, entries.len() as u32)?;
+    let text = inline(alloc, entries, &steps, table);
+    Ok(matches!(text, Err(InlineError::NoColour(4))))
 }
 
 #[test]
@@ -204,28 +168,11 @@ fn entries_are_inlined(rt: HostRuntime) -> Result<(), Fail> {
     for row in TEXTS.lines() {
         let (entries, want) = row.split_once(" => ").ok_or("a row without =>")?;
         let entries = entries_of(alloc, entries)?;
-        assert!(rt; entries.len() < 100);
-        let steps = one_step(alloc, entries.len() as u32)?;
-        let text = inline(alloc, &entries, &steps, &table).map_err(|_| "not inlined")?;
+        let text = text_in_one_step(alloc, &entries, &table)?;
         assert_eq!(rt; text, text_of(alloc, want)?, "{row}");
         let wanted = row.starts_with("e4");
-        let refused = inline(alloc, &entries, &steps, &none);
-        assert_eq!(rt; matches!(refused, Err(InlineError::NoColour(4))), wanted);
+        assert_eq!(rt; lacks_four(alloc, &entries, &none)?, wanted, "{row}");
     }
-    Ok(())
-}
-
-#[test]
-fn steps_are_inlined(rt: HostRuntime) -> Result<(), Fail> {
-    let alloc = rt.alloc();
-    let _: [Point; 0] = NO_POINTS;
-    let entries = entries_of(alloc, STEPPED)?;
-    assert!(rt; entries.len() == 4);
-    let turn = angles_of(alloc, "0 ROTSTEP 0 45 0 REL")?;
-    let tilt = angles_of(alloc, "0 ROTSTEP 10 0 0 REL")?;
-    let steps = stepped(alloc, turn, tilt)?;
-    let text = inline(alloc, &entries, &steps, &Table::empty(alloc)).map_err(|_| "not inlined")?;
-    assert_eq!(rt; text, text_of(alloc, STEPPED_TEXT)?);
     Ok(())
 }
 
