@@ -17,17 +17,6 @@ pub firsts-step : (old new next rest whole : List Block) → new ≡ old ++ firs
 firsts-step old new next rest whole is so_far =
     ap (λ bs. bs ++ firsts bs rest) is ∙ append_assoc old (firsts old next) (firsts (old ++ firsts old next) rest) ∙ ap (λ bs. old ++ bs) (sym (firsts-append old next rest)) ∙ so_far
 
--- no block is left
-pub firsts-end : (old whole : List Block) → old ++ [] ≡ whole → old ≡ whole
-firsts-end old whole is = sym (append-nil old) ∙ is
-
--- a block of a kind and name that none of the earlier ones has
-pub firsts-new : (old : List Block) (x : Block) → is_later old x ≡ false → firsts old (x ∷ []) ≡ x ∷ []
-firsts-new old x new = rw new refl
-
-pub firsts-old : (old : List Block) (x : Block) → is_later old x ≡ true → old ≡ old ++ firsts old (x ∷ [])
-firsts-old old x later = rw later (sym (append-nil old))
-
 -- the block before the first line, and those that begin at what is left of the lines
 pub firsts-start : (own bytes : List ℕ) (lines rest : List (List ℕ)) (old new : List Block) → old ≡ [] → lines ≡ lines_of bytes → new ≡ old ++ firsts old (opening own lines (behind_file lines)) → begun_blocks own rest ≡ begun_blocks own lines → new ++ firsts new (begun_blocks own rest) ≡ blocks_of own bytes
 unfolding blocks_of

@@ -7,14 +7,13 @@ ghost use Rattle.ld_mpd.specs.declared.joining.JoinError.TheVariants.{BadBlock, 
 use crate::{Block, JoinError, join, split, text_of};
 use ld_names::{Bytes, Lines, normal};
 use std::alloc::{AllocError, Global};
-use std::test::Fail;
 
 // Files, with `%` for a byte-order mark, `^` for CR LF and `~` for LF, and their blocks. The first is
 // the worked example mpd.
 const FILES: &str = "\
 %0 outside^0 FILE My Car.ldr^2 24 0 0 0 1 0 0^0 NOFILE^3 bad^0 FILE A.ldr^0 FILE a.ldr^2 24 0 0 0 9 9 9 \
 => text my car.ldr|2 24 0 0 0 1 0 0;text a.ldr;\n\
- => text own.ldr;\n\
+\x20=> text own.ldr;\n\
 % => text own.ldr;\n\
 a~b^~c => text own.ldr|a|b||c;\n\
 0 NOFILE~1~ => text own.ldr;\n\
@@ -30,41 +29,72 @@ a~0 FILE x~b => text x|b;\n\
 0 FILE a\u{1}b~1~0 FILE own.ldr~2 => text own.ldr|1;\n\
 0 FILE a~0 NOFILE x~0 NOFILE~1~0 FILE b~ => text a;text b;";
 
+// Texts of files, each line behind a bar.
+const TEXTS: &str = "0 !DATA x~b~0 FILE x~c~~d~0 FILE y~e => |c||d\n\
+a~0 !DATA x~b => |a\n\
+0 FILE x~0 NOFILE~a => ";
+
+// Blocks of one line each, and the file that they are joined to, or why they cannot be joined.
+const JOINED: &str = "text my car.ldr|2 24;data a|1 => 0 FILE my car.ldr^2 24^0 !DATA a^1^\n\
+text my car.ldr|1;text a.ldr|2;text a.ldr|3 => BadBlock(3)\n\
+text x|0 NOFILE => BadBlock(1)\n\
+text x|1;data x|0 FILE y;data x|2 => BadBlock(2)\n\
+text x|1;data y|1;text z|a~b => BadBlock(3)\n\
+data x|0 NOFILE;data x|1 => NoText";
+
+fn push_byte(bytes: &mut Vec<u8>, byte: u8) -> Result<(), AllocError> {
+    match byte {
+        b'%' => bytes.extend_from_slice(b"\xEF\xBB\xBF"),
+        b'^' => bytes.extend_from_slice(b"\r\n"),
+        b'~' => bytes.extend_from_slice(b"\n"),
+        byte => bytes.extend_from_slice(&[byte]),
+    }
+}
+
 fn file(alloc: Global, text: &str) -> Result<Vec<u8>, AllocError> {
     let mut bytes = Vec::new(alloc);
     for byte in text.as_bytes() {
-        match *byte {
-            b'%' => bytes.extend_from_slice(b"\xEF\xBB\xBF")?,
-            b'^' => bytes.extend_from_slice(b"\r\n")?,
-            b'~' => bytes.extend_from_slice(b"\n")?,
-            byte => bytes.extend_from_slice(&[byte])?,
-        }
+        push_byte(&mut bytes, *byte)?;
     }
     Ok(bytes)
 }
 
-// A short text for blocks: kind and name, and each line behind a bar.
-fn shown(alloc: Global, blocks: &[Block]) -> Result<String, AllocError> {
-    let mut text = String::new(alloc);
-    for block in blocks {
-        text.push_str(if block.is_data { "data " } else { "text " })?;
-        text.push_str(String::from_utf8_lossy(alloc, block.name.bytes())?.as_str())?;
-        for line in block.lines.as_slice() {
-            text.push_str("|")?;
-            text.push_str(String::from_utf8_lossy(alloc, line.as_slice())?.as_str())?;
-        }
-        text.push_str(";")?;
+fn show_lines(shown: &mut Vec<u8>, lines: &[Bytes]) -> Result<(), AllocError> {
+    for line in lines {
+        shown.extend_from_slice(b"|")?;
+        shown.extend_from_slice(line.as_slice())?;
     }
-    Ok(text)
+    Ok(())
 }
 
-fn first_text(blocks: &[Block]) -> Option<&Lines> {
+fn show_block(shown: &mut Vec<u8>, block: &Block) -> Result<(), AllocError> {
+    let kind = if block.is_data {
+        b"data ".as_slice()
+    } else {
+        b"text ".as_slice()
+    };
+    shown.extend_from_slice(kind)?;
+    shown.extend_from_slice(block.name.bytes())?;
+    show_lines(shown, block.lines.as_slice())?;
+    shown.extend_from_slice(b";")
+}
+
+// A short text for blocks: kind and name, and each line behind a bar.
+fn show_blocks(shown: &mut Vec<u8>, blocks: &[Block]) -> Result<(), AllocError> {
     for block in blocks {
-        if !block.is_data {
-            return Some(&block.lines);
-        }
+        show_block(shown, block)?;
     }
-    None
+    Ok(())
+}
+
+fn are_shown(alloc: Global, blocks: &[Block], wanted: &[u8]) -> bool {
+    let mut shown = Vec::new(alloc);
+    show_blocks(&mut shown, blocks).is_ok() && shown.as_slice() == wanted
+}
+
+fn blocks_of(alloc: Global, bytes: &[u8], own: &[u8]) -> Option<Vec<Block>> {
+    let own = normal(alloc, own).ok()?;
+    split(alloc, bytes, &own).ok()
 }
 
 fn join_few(alloc: Global, blocks: &[Block]) -> Result<Vec<u8>, JoinError> {
@@ -74,94 +104,112 @@ fn join_few(alloc: Global, blocks: &[Block]) -> Result<Vec<u8>, JoinError> {
     join(alloc, blocks)
 }
 
-// The blocks of the file, and once more of what they are joined to, by another name.
-fn shown_twice(alloc: Global, bytes: &[u8]) -> Result<(String, String), Fail> {
-    let own = normal(alloc, b"Own.ldr").ok().ok_or("no name")?;
-    let other = normal(alloc, b"x").ok().ok_or("no name")?;
-    let blocks = split(alloc, bytes, &own)?;
-    let joined = join_few(alloc, blocks.as_slice()).ok().ok_or("not joined")?;
-    let again = split(alloc, joined.as_slice(), &other)?;
-    let first = shown(alloc, blocks.as_slice())?;
-    Ok((first, shown(alloc, again.as_slice())?))
-}
-
-// Whether the file's text is what its first text block has.
-fn text_is_first(alloc: Global, bytes: &[u8]) -> Result<bool, Fail> {
-    let own = normal(alloc, b"y").ok().ok_or("no name")?;
-    let blocks = split(alloc, bytes, &own)?;
-    let lines = text_of(alloc, bytes)?;
-    let first = first_text(blocks.as_slice()).ok_or("no text")?;
-    Ok(same_lines(first.as_slice(), lines.as_slice()))
-}
-
-#[test]
-fn files_cut_and_joined(rt: HostRuntime) -> Result<(), Fail> {
-    let alloc = rt.alloc();
-    for row in FILES.lines() {
-        let (text, want) = row.split_once("=> ").ok_or("a row without =>")?;
-        let text = text.strip_suffix(' ').unwrap_or(text);
-        let bytes = file(alloc, text)?;
-        let (first, again) = shown_twice(alloc, bytes.as_slice())?;
-        assert_eq!(rt; first.as_str(), want, "{text}");
-        assert_eq!(rt; again.as_str(), want, "{text}");
-        assert!(rt; text_is_first(alloc, bytes.as_slice())?, "{text}");
+// Whether the joined blocks are cut into the same ones, by another name.
+fn cuts_again(alloc: Global, blocks: &[Block], wanted: &[u8]) -> bool {
+    let Ok(joined) = join_few(alloc, blocks) else {
+        return false;
+    };
+    match blocks_of(alloc, joined.as_slice(), b"x") {
+        Some(again) => are_shown(alloc, again.as_slice(), wanted),
+        None => false,
     }
-    Ok(())
 }
 
-fn same_lines(lines: &[Bytes], others: &[Bytes]) -> bool {
-    lines.len() == others.len()
-        && lines
-            .iter()
-            .zip(others)
-            .all(|(line, other)| line.as_slice() == other.as_slice())
+fn cuts(alloc: Global, bytes: &[u8], wanted: &[u8]) -> bool {
+    let Some(blocks) = blocks_of(alloc, bytes, b"Own.ldr") else {
+        return false;
+    };
+    are_shown(alloc, blocks.as_slice(), wanted) && cuts_again(alloc, blocks.as_slice(), wanted)
 }
 
-fn one_block(alloc: Global, is_data: bool, name: &[u8], line: &[u8]) -> Result<Block, Fail> {
-    let name = normal(alloc, name).ok().ok_or("no name")?;
+fn has_text(alloc: Global, bytes: &[u8], wanted: &[u8]) -> bool {
+    let Ok(lines) = text_of(alloc, bytes) else {
+        return false;
+    };
+    let mut shown = Vec::new(alloc);
+    show_lines(&mut shown, lines.as_slice()).is_ok() && shown.as_slice() == wanted
+}
+
+// A block of one line, as `text x|0 NOFILE`.
+fn one_block(alloc: Global, part: &str) -> Option<Block> {
+    let (head, line) = part.split_once('|')?;
+    let (kind, name) = head.split_once(' ')?;
+    let name = normal(alloc, name.as_bytes()).ok()?;
+    let line = file(alloc, line).ok()?;
     let mut lines = Lines::new(alloc);
-    lines.push(Bytes::from_slice(alloc, line)?)?;
-    Ok(Block {
+    lines.push(Bytes::from_vec(line)).ok()?;
+    Some(Block {
         name,
         lines,
-        is_data,
+        is_data: kind == "data",
     })
 }
 
-// What joining answers to blocks of one line each, kinds and lines by a row as `text x|0 NOFILE;`.
-fn joining(alloc: Global, row: &str) -> Result<Result<Vec<u8>, JoinError>, Fail> {
+fn few_blocks(alloc: Global, parts: &str) -> Option<Vec<Block>> {
     let mut blocks = Vec::new(alloc);
-    for part in row.split(';') {
-        let (head, line) = part.split_once('|').ok_or("no line")?;
-        let (kind, name) = head.split_once(' ').ok_or("no name")?;
-        let line = file(alloc, line)?;
-        blocks.push(one_block(alloc, kind == "data", name.as_bytes(), line.as_slice())?)?;
+    for part in parts.split(';') {
+        blocks.push(one_block(alloc, part)?).ok()?;
     }
-    Ok(join_few(alloc, blocks.as_slice()))
+    Some(blocks)
+}
+
+fn is_told(alloc: Global, error: JoinError, wanted: &str) -> bool {
+    match format!(in alloc; "{error:?}") {
+        Ok(told) => told.as_str() == wanted,
+        Err(_) => false,
+    }
+}
+
+fn joins(alloc: Global, parts: &str, wanted: &str) -> bool {
+    let Some(blocks) = few_blocks(alloc, parts) else {
+        return false;
+    };
+    match (join_few(alloc, blocks.as_slice()), file(alloc, wanted)) {
+        (Ok(joined), Ok(wanted)) => joined.as_slice() == wanted.as_slice(),
+        (Err(error), _) => is_told(alloc, error, wanted),
+        _ => false,
+    }
+}
+
+fn file_row_holds(alloc: Global, row: &str) -> bool {
+    let Some((text, wanted)) = row.split_once(" => ") else {
+        return false;
+    };
+    match file(alloc, text) {
+        Ok(bytes) => cuts(alloc, bytes.as_slice(), wanted.as_bytes()),
+        Err(_) => false,
+    }
+}
+
+fn text_row_holds(alloc: Global, row: &str) -> bool {
+    let Some((text, wanted)) = row.split_once(" => ") else {
+        return false;
+    };
+    match file(alloc, text) {
+        Ok(bytes) => has_text(alloc, bytes.as_slice(), wanted.as_bytes()),
+        Err(_) => false,
+    }
+}
+
+fn join_row_holds(alloc: Global, row: &str) -> bool {
+    match row.split_once(" => ") {
+        Some((parts, wanted)) => joins(alloc, parts, wanted),
+        None => false,
+    }
 }
 
 #[test]
-fn blocks_that_cannot_be_joined(rt: HostRuntime) -> Result<(), Fail> {
+fn files_cut_and_joined(rt: HostRuntime) {
     let alloc = rt.alloc();
-    assert!(rt; join_few(alloc, &[]) == Err(JoinError::NoText));
-    for (row, error) in [
-        (
-            "text my car.ldr|1;text a.ldr|2;text a.ldr|3",
-            JoinError::BadBlock(3),
-        ),
-        ("text x|0 NOFILE", JoinError::BadBlock(1)),
-        ("text x|1;data x|0 FILE y;data x|2", JoinError::BadBlock(2)),
-        ("text x|1;data y|1;text z|a~b", JoinError::BadBlock(3)),
-        ("data x|0 NOFILE;data x|1", JoinError::NoText),
-    ] {
-        assert!(rt; joining(alloc, row)? == Err(error), "{row}");
+    for row in FILES.lines() {
+        assert!(rt; file_row_holds(alloc, row), "{row}");
     }
-    let joined = joining(alloc, "text my car.ldr|2 24;data a|1")?
-        .ok()
-        .ok_or("not joined")?;
-    let want = file(alloc, "0 FILE my car.ldr^2 24^0 !DATA a^1^")?;
-    assert!(rt; joined.as_slice() == want.as_slice());
-    Ok(())
+    for row in TEXTS.lines() {
+        assert!(rt; text_row_holds(alloc, row), "{row}");
+    }
+    for row in JOINED.lines() {
+        assert!(rt; join_row_holds(alloc, row), "{row}");
+    }
 }
 
 // The definitions, by computing.
