@@ -19,7 +19,7 @@ use Rattle.ld_colour.specs.declared.definition.Definition.{Definition}
 use Rattle.ld_colour.specs.declared.table.Table.{Table}
 use Rattle.ld_colour.specs.Definition.{are_keywords, colour_line, colour_line_in, defined_by, defining, edge_by, edge_value, is_rest, made, rgb_value, six_hex_digits}
 use Rattle.ld_colour.specs.Rgb.{HasRgb, IsRgb, IsRgbEdge}
-use Rattle.ld_colour.specs.Table.{FindsRgb, counting, edge_by as table_edge, edge_of, rgb_in, value_by, value_in}
+use Rattle.ld_colour.specs.Table.{FindsRgb, counting, edge_of, rgb_in, value_by, value_in, value_of_edge}
 
 -- ---- What a line defines.
 
@@ -99,13 +99,13 @@ module _ (table : Table) (all : All HasRgb (values_of table)) where
   value-rgb : (code : ℕ) → IfSome (value_in (counting table) code) IsRgb
   value-rgb code = value_by-rgb (counting table code) (IfSome-lookup_from_All HasRgb (nat_eq code) table all)
 
-  edge_by-found : (edge : DefinedEdge) → IsRgbEdge edge → IfSome (table_edge (counting table) edge) IsRgb
-  edge_by-found (Value value) rgb = rgb
-  edge_by-found (ValueOf code) rgb = value-rgb code
+  value_of_edge-rgb : (edge : DefinedEdge) → IsRgbEdge edge → IfSome (value_of_edge (counting table) edge) IsRgb
+  value_of_edge-rgb (Value value) rgb = rgb
+  value_of_edge-rgb (ValueOf code) rgb = value-rgb code
 
   edge_of-rgb : (o : Option Definition) → IfSome o HasRgb → IfSome (edge_of (counting table) o) IsRgb
   edge_of-rgb None rgb = tt
-  edge_of-rgb (Some definition) rgb = edge_by-found definition.edge rgb.1
+  edge_of-rgb (Some definition) rgb = value_of_edge-rgb definition.edge rgb.1
 
   pub values : FindsRgb (counting table)
   unfolding rgb_in

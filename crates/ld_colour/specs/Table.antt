@@ -69,13 +69,13 @@ value_by (Some definition) = Some definition.value
 abbrev pub value_in : Counting → ℕ → Option ℕ
 value_in table code = value_by (table code)
 
-abbrev pub edge_by : Counting → DefinedEdge → Option ℕ
-edge_by table (Value value) = Some value
-edge_by table (ValueOf code) = value_in table code
+abbrev pub value_of_edge : Counting → DefinedEdge → Option ℕ
+value_of_edge table (Value value) = Some value
+value_of_edge table (ValueOf code) = value_in table code
 
 abbrev pub edge_of : Counting → Option Definition → Option ℕ
 edge_of table None = None
-edge_of table (Some definition) = edge_by table definition.edge
+edge_of table (Some definition) = value_of_edge table definition.edge
 
 abbrev pub edge_in : Counting → ℕ → Option ℕ
 edge_in table code = edge_of table (table code)

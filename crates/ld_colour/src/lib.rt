@@ -1,5 +1,5 @@
-//! What the colour words of LDraw texts mean, and how colours are inherited: File Format 1.0.2,
-//! "Colours".
+//! What the colour words of LDraw texts mean, and how colours are inherited (File Format 1.0.2,
+//! "Colours"); the table of a colour file (Colour Definition Language Extension).
 #![tactic(auto)]
 
 mod colour;

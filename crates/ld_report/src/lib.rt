@@ -1,5 +1,5 @@
 //! The printed texts of an LDraw model's expansion: its entries and steps, its faults and its parts
-//! list.
+//! list; and the findings on a part.
 #![tactic(auto)]
 
 mod entry;
