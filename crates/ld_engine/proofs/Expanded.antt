@@ -1,12 +1,10 @@
 -- The steps of an expansion.
-use Rattle.std.proofs.Common.{◌≡◌, ◌<◌, ◌-◌, ◌&&◌, ℕ, zero, suc, Bool, true, false, cond, List, [], ◌∷◌, ◌++◌, length, map, drop, Option, Some, None, Ok, Err, refl, ap, sym, ◌∙◌, append_assoc}
-use Rattle.std.specs.Prelude.{slice_get, option_map}
+use Rattle.std.proofs.Common.{◌≡◌, ◌-◌, ◌&&◌, ℕ, zero, suc, Bool, true, false, cond, List, [], ◌∷◌, ◌++◌, length, map, drop, Option, Some, None, Ok, Err, refl, ap, sym, ◌∙◌, append_assoc}
+use Rattle.std.specs.Prelude.{slice_get}
 use Rattle.std.proofs.lemmas.List.{append-nil}
 use Rattle.std.proofs.Math.Seq.{take-append_seam}
 use Rattle.ld_names.specs.declared.file.TextId.{TextId}
 use Rattle.ld_num.specs.declared.point.Placement.{Placement}
-use Rattle.ld_line.specs.declared.line.Line.{Line}
-use Rattle.ld_bfc.specs.LineState.{next, start}
 use Rattle.ld_bfc.specs.declared.culling.State.{State}
 use Rattle.ld_colour.specs.Laws.{UnderLaws}
 use Rattle.ld_colour.specs.Colour.{under}
@@ -15,14 +13,13 @@ use Rattle.ld_entry.specs.Answers.{answer, answer_of, answer_by, until_end, entr
 use Rattle.ld_entry.specs.Carrying.{Above, above_of, Outcome, beneath, carried_outcome, carried_entry, colour_above, fault_at, nothing_above}
 use Rattle.ld_entry.specs.Laws.{ActionLaw, CutLaws, tinted_entry}
 use Rattle.ld_entry.specs.NumberedTexts.{NumberedTexts}
-use Rattle.ld_entry.specs.Outcomes.{Context, Enter, all, all_by_line, outcomes_by_line, context_of, outcomes_from, is_on_way, concatenation, line_outcomes, part_outcomes, outer_of, found_outcomes}
+use Rattle.ld_entry.specs.Outcomes.{Context, all, all_by_line, outcomes_by_line, context_of, is_on_way, concatenation, part_outcomes, outer_of, found_outcomes}
 use Rattle.ld_entry.specs.declared.entry.Entry.{Entry}
 use Rattle.ld_entry.specs.declared.entry.Entry.TheVariants.{Drawn, Part}
 use Rattle.ld_entry.specs.declared.entry.Fault.{Fault}
 use Rattle.ld_entry.specs.declared.entry.Source.{Source}
 use Rattle.ld_entry.specs.declared.entry.What.TheVariants.{Cycle, TooDeep}
-use Rattle.ld_engine.specs.Gathering.{CarriesFrom, Extends, Gathers, alone, enter_with, gathered, unless_fault}
-use Rattle.ld_engine.proofs.Gathered.{fault-gathered, full}
+use Rattle.ld_engine.specs.Gathering.{CarriesFrom, Extends, Gathers, alone, enter_with, unless_fault}
 
 -- ---- A reference.
 
@@ -78,12 +75,6 @@ extends-carried above base sub new (Some fault) some =
 pub extends-on : (old mid new : List Entry) → Extends old mid → Extends mid new → Extends old new
 extends-on old mid new first second = (first.0 ++ second.0, second.1 ∙ ap (λ es. es ++ second.0) first.1 ∙ append_assoc old first.0 second.0)
 
--- ---- A line.
-
-pub line-faulted : (most : ℕ) (entries : List Entry) (enter : Enter) (context : Context) (state : State) (source : Source) (line said : Line) (end : Option Fault) (fault : Fault) → end ≡ Some fault → line ≡ said → line_outcomes enter context state source said ≡ Err fault ∷ [] → Gathers most entries entries end (line_outcomes enter context state source line)
-line-faulted most entries enter context state source line said end fault ends is gives =
-    fault-gathered most entries end fault (line_outcomes enter context state source line) ends (ap (line_outcomes enter context state source) is ∙ gives)
-
 -- ---- A text.
 
 pub all-is : (left : ℕ) (context : Context) → all left context ≡ concatenation (outcomes_by_line (enter_with left) context)
@@ -101,61 +92,6 @@ past-lines [] zero is = refl
 past-lines [] (suc n) is = refl
 past-lines (y ∷ xs) zero is = cc
 past-lines (y ∷ xs) (suc n) is = past-lines xs n is
-
--- a line that is read is the next one
-pub read-as : (lines : List Line) (n : ℕ) (said : Option (List ℕ)) (of : List ℕ → Line) (line : List ℕ) → said ≡ Some line → option_map of said ≡ slice_get lines n → slice_get lines n ≡ Some (of line)
-read-as lines n said of line is at = sym at ∙ ap (option_map of) is
-
-module _ (most left : ℕ) (texts : NumberedTexts) (way : List TextId) (text : TextId) (old : List Entry) where
-  abbrev lines : List Line
-  lines = texts.lines text
-
-  -- what is left from a line on, by the number of lines before it
-  abbrev pub lines_left : State → ℕ → List Outcome
-  lines_left state before = concatenation (outcomes_from (enter_with left) (alone texts way text) state (suc before) (drop before lines))
-
-  -- what is gathered so far, and what is left
-  abbrev pub IsGathered : List Entry → State → ℕ → Type 0
-  IsGathered entries state before =
-      (behind : List Outcome) → gathered most entries None (lines_left state before ++ behind) ≡ gathered most old None (all left (alone texts way text) ++ behind)
-
-  none-dropped : (xs : List Line) → drop 0 xs ≡ xs
-  none-dropped [] = refl
-  none-dropped (x ∷ xs) = refl
-
-  pub begun : (state : State) → state ≡ start (texts.is_part text) → IsGathered old state 0
-  begun state is behind =
-      ap (λ s. gathered most old None (lines_left s 0 ++ behind)) is
-      ∙ ap (λ ls. gathered most old None (concatenation (outcomes_from (enter_with left) (alone texts way text) (start (texts.is_part text)) 1 ls) ++ behind)) (none-dropped lines)
-      ∙ sym (ap (λ os. gathered most old None (os ++ behind)) (all-is left (alone texts way text)))
-
-  pub overfull : (entries : List Entry) (state : State) (before : ℕ) → most < length entries → IsGathered entries state before → Gathers most old entries None (all left (alone texts way text))
-  overfull entries state before many so_far behind = full most entries behind (lines_left state before ++ behind) many ∙ so_far behind
-
-  pub done : (entries : List Entry) (state : State) (before : ℕ) → slice_get lines before ≡ None → IsGathered entries state before → Gathers most old entries None (all left (alone texts way text))
-  done entries state before none so_far behind =
-      sym (ap (λ ls. gathered most entries None (concatenation (outcomes_from (enter_with left) (alone texts way text) state (suc before) ls) ++ behind)) (past-lines lines before none)) ∙ so_far behind
-
-  module _ (entries new : List Entry) (state after : State) (before number : ℕ) (line : Line) (at : slice_get lines before ≡ Some line) (next_is : number ≡ suc before) (follows : after ≡ next state line) (so_far : IsGathered entries state before) where
-    abbrev line_gives : List Outcome
-    line_gives = line_outcomes (enter_with left) (alone texts way text) state (record { text = text; line = number }) line
-
-    left-is : lines_left state before ≡ line_gives ++ lines_left after number
-    left-is =
-        ap (λ ls. concatenation (outcomes_from (enter_with left) (alone texts way text) state (suc before) ls)) (at-line lines before line at)
-        ∙ ap (λ n. line_outcomes (enter_with left) (alone texts way text) state (record { text = text; line = n }) line ++ concatenation (outcomes_from (enter_with left) (alone texts way text) (next state line) (suc n) (drop n lines))) (sym next_is)
-        ∙ ap (λ s. line_gives ++ lines_left s number) (sym follows)
-
-    assoc : (behind : List Outcome) → lines_left state before ++ behind ≡ line_gives ++ (lines_left after number ++ behind)
-    assoc behind = ap (λ os. os ++ behind) left-is ∙ append_assoc line_gives (lines_left after number) behind
-
-    pub line-done : Gathers most entries new None line_gives → IsGathered new after number
-    line-done step behind =
-        step (lines_left after number ++ behind) ∙ sym (ap (λ os. until_end most (map Ok entries ++ os)) (assoc behind)) ∙ so_far behind
-
-    pub line-ended : (fault : Fault) → Gathers most entries new (Some fault) line_gives → Gathers most old new (Some fault) (all left (alone texts way text))
-    line-ended fault step behind =
-        step (lines_left after number ++ behind) ∙ sym (ap (λ os. until_end most (map Ok entries ++ os)) (assoc behind)) ∙ so_far behind
 
 -- ---- An answer.
 

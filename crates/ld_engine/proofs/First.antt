@@ -4,10 +4,9 @@ use Rattle.ld_io.specs.Shelf.{Files}
 use Rattle.ld_mpd.specs.Blocks.{text_blocks, text_of}
 use Rattle.ld_mpd.specs.Laws.{TextStands}
 use Rattle.ld_names.specs.Finding.{IsFileEquality}
-use Rattle.ld_names.specs.Standing.{file_in, Known, known_map, same_file, Text}
+use Rattle.ld_names.specs.Standing.{file_in, Known, known_map, same_file}
 use Rattle.ld_names.specs.declared.file.FileId.{FileId}
 use Rattle.ld_names.specs.declared.file.Folder.TheVariants.{Model}
-use Rattle.ld_texts.specs.Editing.{edited}
 use Rattle.ld_texts.specs.EditLaws.{EditLaws}
 use Rattle.ld_texts.specs.Known.{id_of}
 use Rattle.ld_texts.specs.Laws.{LearningNumbers}

@@ -1,6 +1,7 @@
 pub mod Reached
 pub mod Gone
 pub mod Gathered
+pub mod Meetings
 pub mod Rooted
 pub mod Stepped
 pub mod Expanded

@@ -1,5 +1,5 @@
 -- Learning leaves the texts as they stand.
-use Rattle.std.proofs.Common.{◌≡◌, ◌-◌, ◌++◌, ℕ, zero, suc, Bool, true, false, cond, List, [], ◌∷◌, length, Option, Some, None, Result, Ok, Err, refl, ap, sym, ◌∙◌}
+use Rattle.std.proofs.Common.{◌≡◌, ◌++◌, ℕ, zero, suc, Bool, true, false, cond, List, [], ◌∷◌, length, Option, Some, None, Result, Ok, Err, refl, ap, sym, ◌∙◌}
 use Rattle.std.specs.Prelude.{nat_lt, option_map, slice_get, ⊤}
 use Rattle.ld_io.specs.Shelf.{Files}
 use Rattle.ld_names.specs.Finding.{FindsExactly, LearningStays}
@@ -14,9 +14,8 @@ use Rattle.ld_texts.specs.Laws.{NumbersAgree}
 use Rattle.ld_texts.specs.Learning.{weight_passed}
 use Rattle.ld_texts.specs.Reach.{file_reaches, going_on, line_reaches, lines_in, lines_reach, reach, Reached, reached_by, Reaches, texts_reach, wanted, wanted_in, Wants, with_found}
 use Rattle.ld_texts.specs.declared.change.Over.{Over}
-use Rattle.ld_texts.specs.declared.change.Over.TheVariants.{Files as TooMany}
 use Rattle.ld_engine.specs.Laws.{LearningStands}
-use Rattle.ld_engine.specs.Learning.{bytes_on, fetched, Full, learn, learning_by, learning_on, Learnt, learnt, Stop, stopped, text_by, text_on, TooBig, unless_over, wanted_for, Wanting}
+use Rattle.ld_engine.specs.Learning.{bytes_on, fetched, learning_by, Stop, text_by, text_on, TooBig, unless_over, wanted_for, Wanting}
 use Rattle.ld_engine.specs.declared.limits.Limits.{Limits}
 use Rattle.ld_engine.proofs.Grown.{learning-keeps}
 

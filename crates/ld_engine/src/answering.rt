@@ -6,7 +6,7 @@ ghost use Rattle.ld_entry.specs.NumberedTexts.{known_texts};
 ghost use Rattle.ld_engine.specs.Stepping.{answer_with_steps};
 
 use crate::asking::Answer;
-use crate::expand::NO_POINTS;
+use crate::met::NO_POINTS;
 use crate::root::{RootExpansion, expand_root, read_lines};
 use crate::stepping::step_parts;
 use ld_colour::{Colour, under, under_laws};

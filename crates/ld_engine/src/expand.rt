@@ -6,52 +6,28 @@ ghost use Rattle.ld_names.specs.declared.file.TextId.{TextId};
 ghost use Rattle.ld_colour.specs.Colour.{colour_of as colour_of_word};
 ghost use Rattle.ld_entry.specs.Carrying.{above_of};
 ghost use Rattle.ld_entry.specs.NumberedTexts.{known_texts};
-ghost use Rattle.ld_entry.specs.Outcomes.{all, found_outcomes, is_on_way, line_outcomes, outer_of, own_entry, part_outcomes};
+ghost use Rattle.ld_entry.specs.Outcomes.{all, found_outcomes, is_on_way, line_outcomes, outer_of, part_outcomes};
 ghost use Rattle.ld_engine.specs.Gathering.{Extends, Gathers, alone, enter_with};
+ghost use Rattle.ld_engine.specs.Inside.Meeting.{AreMets, met_outcomes};
 
 use crate::carrying::carry_from;
-use crate::seen::{found, is_part, line_behind};
-use ld_bfc::{State, below_of, face, next, start};
+use crate::met::{Met, NO_POINTS, Reference, meet};
+use crate::reading::Reading;
+use crate::seen::is_part;
+use ld_bfc::{State, below_of};
 use ld_colour::{colour_of, under_laws};
-use ld_entry::{Entry, Fault, Outer, Source, What, action_law, carry, cut_laws};
-use ld_line::{Kind, Line, read_line};
+use ld_entry::{Entry, Fault, Outer, Source, What, action_law, cut_laws};
+use ld_line::Line;
 use ld_names::TextId;
-use ld_num::{Placement, Point, mirrored};
+use ld_num::{Point, mirrored};
 use ld_texts::Texts;
 use smallvec::SmallVec;
 use std::alloc::{AllocError, Global};
-
-// Named where entries are moved: the prover looks for the types inside them among those named.
-pub(crate) const NO_POINTS: [Point; 0] = [];
-
-// A reference that is met in a state.
-#[derive(Clone, Copy)]
-struct Reference {
-    state: State,
-    source: Source,
-    colour: u32,
-    placement: Placement,
-}
 
 fn fault(what: What, source: Source) -> Option<Fault>
     ensures { result ≡ Some (record { what = what; source = source }) }
 {
     Some(Fault { what, source })
-}
-
-fn drawn(state: State, source: Source, kind: Kind, colour: u32, points: [Point; 4]) -> Entry
-    ensures { result ≡ own_entry state source kind colour points }
-{
-    let (certified, clip, winding) = face(state);
-    Entry::Drawn {
-        kind,
-        certified,
-        clip,
-        winding,
-        colour: colour_of(colour),
-        source,
-        points,
-    }
 }
 
 // Whether the file is in hand.
@@ -110,6 +86,7 @@ fn push_part(
 fn enter_file(
     alloc: Global,
     texts: &Texts,
+    reading: &mut Reading,
     way: &mut SmallVec<TextId, 64>,
     left: u32,
     most: u32,
@@ -117,6 +94,8 @@ fn enter_file(
     file: TextId,
     entries: &mut Vec<Entry>,
 ) -> Result<Option<Fault>, AllocError>
+    requires read { AreMets (known_texts texts.now.known) reading.old.lists.items }
+    ensures read { OnOk result (AreMets (known_texts texts.now.known) reading.new.lists.items) }
     ensures way { OnOk result (way.new.items ≡ way.old.items) }
     ensures extends { OnOk result (Extends entries.old.items entries.new.items) }
     ensures gathers { IfOk result (λ end. Gathers most entries.old.items entries.new.items end
@@ -139,61 +118,41 @@ fn enter_file(
         return Ok(None);
     }
     way.push(source.text)?;
-    let end = expand_text(alloc, texts, way, file, left - 1, most, entries)?;
+    let end = expand_text(alloc, texts, reading, way, file, left - 1, most, entries)?;
     way.pop();
     let refusal = carry_from(&outer, start, entries);
     Ok(refusal.or(end))
 }
 
-// What a line gives, by the state before it.
+// What a line gives that comes to this.
 #[cycle(expand)]
-pub(crate) fn expand_line(
+fn expand_met(
     alloc: Global,
     texts: &Texts,
+    reading: &mut Reading,
     way: &mut SmallVec<TextId, 64>,
     left: u32,
     most: u32,
-    state: State,
-    source: Source,
-    line: Line,
+    met: Met,
     entries: &mut Vec<Entry>,
 ) -> Result<Option<Fault>, AllocError>
+    requires read { AreMets (known_texts texts.now.known) reading.old.lists.items }
+    ensures read { OnOk result (AreMets (known_texts texts.now.known) reading.new.lists.items) }
     ensures way { OnOk result (way.new.items ≡ way.old.items) }
     ensures extends { OnOk result (Extends entries.old.items entries.new.items) }
     ensures gathers { IfOk result (λ end. Gathers most entries.old.items entries.new.items end
-        (line_outcomes (enter_with left) (alone (known_texts texts.now.known) way.old.items source.text) state source line)) }
+        (met_outcomes (enter_with left) (known_texts texts.now.known) way.old.items met)) }
 {
-    match line {
-        Line::Malformed => Ok(fault(What::Malformed, source)),
-        Line::OutOfRange => Ok(fault(What::Range, source)),
-        Line::Draw {
-            kind,
-            colour,
-            points,
-        } => {
-            entries.push(drawn(state, source, kind, colour, points))?;
+    let _: [Point; 0] = NO_POINTS;
+    match met {
+        Met::Shows(entry) => {
+            entries.push(entry)?;
             Ok(None)
         }
-        Line::Ref {
-            colour,
-            placement,
-            name,
-        } => match name {
-            None => Ok(fault(What::Unnamed, source)),
-            Some(name) => match found(texts, source.text, &name) {
-                None => Ok(fault(What::Missing, source)),
-                Some(file) => {
-                    let reference = Reference {
-                        state,
-                        source,
-                        colour,
-                        placement,
-                    };
-                    enter_file(alloc, texts, way, left, most, &reference, file, entries)
-                }
-            },
-        },
-        _ => Ok(None),
+        Met::Fails(fault) => Ok(Some(fault)),
+        Met::Enters(reference, file) => enter_file(
+            alloc, texts, reading, way, left, most, &reference, file, entries,
+        ),
     }
 }
 
@@ -203,32 +162,60 @@ pub(crate) fn expand_line(
 fn expand_text(
     alloc: Global,
     texts: &Texts,
+    reading: &mut Reading,
     way: &mut SmallVec<TextId, 64>,
     text: TextId,
     left: u32,
     most: u32,
     entries: &mut Vec<Entry>,
 ) -> Result<Option<Fault>, AllocError>
+    requires read { AreMets (known_texts texts.now.known) reading.old.lists.items }
+    ensures read { OnOk result (AreMets (known_texts texts.now.known) reading.new.lists.items) }
     ensures way { OnOk result (way.new.items ≡ way.old.items) }
     ensures extends { OnOk result (Extends entries.old.items entries.new.items) }
     ensures gathers { IfOk result (λ end. Gathers most entries.old.items entries.new.items end
         (all left (alone (known_texts texts.now.known) way.old.items text))) }
 {
-    let mut state = start(is_part(texts, text));
-    let mut before: u32 = 0;
-    while let Some(line) = line_behind(texts, text, before) {
+    let _: [Point; 0] = NO_POINTS;
+    under_laws();
+    let mut before: usize = 0;
+    while let Some(met) = reading.met_behind(alloc, texts, text, before)? {
         if entries.len() > most as usize {
             return Ok(None);
         }
-        let line = read_line(alloc, line)?;
         before += 1;
-        let source = Source { text, line: before };
-        let after = next(state, &line);
-        let end = expand_line(alloc, texts, way, left, most, state, source, line, entries)?;
+        let end = expand_met(alloc, texts, reading, way, left, most, met, entries)?;
         if let Some(fault) = end {
             return Ok(Some(fault));
         }
-        state = after;
     }
     Ok(None)
+}
+
+// What a line of a root gives, by the state before it.
+pub(crate) fn expand_line(
+    alloc: Global,
+    texts: &Texts,
+    reading: &mut Reading,
+    way: &mut SmallVec<TextId, 64>,
+    left: u32,
+    most: u32,
+    state: State,
+    source: Source,
+    line: Line,
+    entries: &mut Vec<Entry>,
+) -> Result<Option<Fault>, AllocError>
+    requires read { AreMets (known_texts texts.now.known) reading.old.lists.items }
+    ensures read { OnOk result (AreMets (known_texts texts.now.known) reading.new.lists.items) }
+    ensures way { OnOk result (way.new.items ≡ way.old.items) }
+    ensures extends { OnOk result (Extends entries.old.items entries.new.items) }
+    ensures gathers { IfOk result (λ end. Gathers most entries.old.items entries.new.items end
+        (line_outcomes (enter_with left) (alone (known_texts texts.now.known) way.old.items source.text) state source line)) }
+{
+    let _: [Point; 0] = NO_POINTS;
+    under_laws();
+    match meet(texts, state, source, line) {
+        None => Ok(None),
+        Some(met) => expand_met(alloc, texts, reading, way, left, most, met, entries),
+    }
 }

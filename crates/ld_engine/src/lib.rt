@@ -14,6 +14,8 @@ mod laws;
 mod learning;
 mod limits;
 mod loading;
+mod met;
+mod reading;
 mod root;
 mod seen;
 mod stepping;

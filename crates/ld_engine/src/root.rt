@@ -6,6 +6,7 @@ ghost use Rattle.ld_engine.specs.Gathering.{Gathers, alone};
 ghost use Rattle.ld_engine.specs.Inside.Ends.{line_ends};
 
 use crate::expand::expand_line;
+use crate::reading::Reading;
 use crate::seen::{is_part, line_behind};
 use ld_bfc::{next, start};
 use ld_entry::{Entry, Fault, Source};
@@ -64,6 +65,7 @@ pub(crate) fn expand_root(
         end: None,
     };
     let mut way = SmallVec::new(alloc);
+    let mut reading = Reading::new(alloc);
     let mut state = start(is_part(texts, root));
     let mut number: u32 = 0;
     let mut rest = lines.into_iter();
@@ -76,7 +78,16 @@ pub(crate) fn expand_root(
         let after = next(state, &line);
         let entries = &mut given.entries;
         given.end = expand_line(
-            alloc, texts, &mut way, left, most, state, source, line, entries,
+            alloc,
+            texts,
+            &mut reading,
+            &mut way,
+            left,
+            most,
+            state,
+            source,
+            line,
+            entries,
         )?;
         if given.end.is_some() || given.entries.len() > most as usize {
             return Ok(given);

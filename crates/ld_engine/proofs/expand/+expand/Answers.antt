@@ -4,17 +4,15 @@ use Rattle.std.specs.List.{list_any}
 use Rattle.std.specs.Option.{option_or}
 use Rattle.std.proofs.lemmas.Option.{slice_get_within}
 use Rattle.std.proofs.lemmas.List.{append-nil}
-use Rattle.ld_line.specs.Reading.{line_of}
-use Rattle.ld_line.specs.declared.line.Line.TheVariants.{Ref}
-use Rattle.ld_line.specs.declared.line.Line.TheVariants as line
-use Rattle.ld_bfc.specs.LineState.{start}
 use Rattle.ld_entry.specs.Carrying.{above_of, carried_outcome}
 use Rattle.ld_entry.specs.NumberedTexts.{known_texts}
-use Rattle.ld_entry.specs.Outcomes.{all, is_on_way, line_outcomes, part_outcomes, outer_of, found_outcomes}
+use Rattle.ld_entry.specs.Outcomes.{all, is_on_way, part_outcomes, outer_of, found_outcomes}
 use Rattle.ld_entry.specs.declared.entry.Source.{Source}
 use Rattle.ld_engine.specs.Gathering.{CarriesFrom, Gathers, alone, enter_with}
 use Rattle.ld_engine.proofs.Gathered.{carried-gathered, fault-gathered, full-gathered, then-gathered}
-use Rattle.ld_engine.proofs.Expanded.{begun, done, entered-gives, extends-carried, extends-on, line-done, line-ended, line-faulted, on_way-gives, overfull, too_deep-gives}
+use Rattle.ld_engine.specs.Inside.Meeting.{met_outcomes, mets_of}
+use Rattle.ld_engine.proofs.Expanded.{entered-gives, extends-carried, extends-on, on_way-gives, too_deep-gives}
+use Rattle.ld_engine.proofs.Meetings.{begun, done, met-done, met-ended, overfull}
 use Rattle.ld_engine.proofs.expand.+expand.Goals as goal
 
 pub enter_file-returns-then-on_way-clause-gathers : goal.enter_file-returns-then-on_way-clause-gathers
@@ -78,69 +76,54 @@ enter_file-returns-clause-gathers t c =
     let given = entered-gives texts way c.args.left r.state r.source r.colour r.placement c.args.file c.under_laws.ensures c.action_law.ensures further off left in
     subst (λ e. Gathers c.args.most old c.carry_from-refusal.new.entries.items e (found_outcomes (enter_with c.args.left) (alone texts way r.source.text) r.state r.source r.colour r.placement (Some c.args.file))) (sym c.or.ensures) (subst (Gathers c.args.most old c.carry_from-refusal.new.entries.items (option_or c.carry_from-refusal.result c.in_ok-end.end)) (sym given) all_of)
 
-pub expand_line-returns-in-Malformed-clause-gathers : goal.expand_line-returns-in-Malformed-clause-gathers
-expand_line-returns-in-Malformed-clause-gathers t c =
-    line-faulted c.args.most c.args.entries.now.items (enter_with c.args.left) (alone (known_texts c.args.texts.now.known) c.args.way.now.items c.args.source.text) c.args.state c.args.source c.args.line line.Malformed _ _ c.fault.ensures c.in-Malformed.is refl
+pub expand_met-returns-in-Fails-clause-gathers : goal.expand_met-returns-in-Fails-clause-gathers
+expand_met-returns-in-Fails-clause-gathers t c =
+    fault-gathered c.args.most c.args.entries.now.items (Some c.in-Fails.fault) c.in-Fails.fault (met_outcomes (enter_with c.args.left) (known_texts c.args.texts.now.known) c.args.way.now.items c.args.met) refl (ap (met_outcomes (enter_with c.args.left) (known_texts c.args.texts.now.known) c.args.way.now.items) c.in-Fails.is)
 
-pub expand_line-returns-in-OutOfRange-clause-gathers : goal.expand_line-returns-in-OutOfRange-clause-gathers
-expand_line-returns-in-OutOfRange-clause-gathers t c =
-    line-faulted c.args.most c.args.entries.now.items (enter_with c.args.left) (alone (known_texts c.args.texts.now.known) c.args.way.now.items c.args.source.text) c.args.state c.args.source c.args.line line.OutOfRange _ _ c.fault-in-OutOfRange.ensures c.in-OutOfRange.is refl
-
-pub expand_line-returns-in-None-clause-gathers : goal.expand_line-returns-in-None-clause-gathers
-expand_line-returns-in-None-clause-gathers t c =
-    line-faulted c.args.most c.args.entries.now.items (enter_with c.args.left) (alone (known_texts c.args.texts.now.known) c.args.way.now.items c.args.source.text) c.args.state c.args.source c.args.line (Ref c.in-Ref.colour c.in-Ref.placement None) _ _ c.fault-in-None.ensures (c.in-Ref.is ∙ ap (λ n. Ref c.in-Ref.colour c.in-Ref.placement n) c.in-None.is) refl
-
-pub expand_line-returns-in-None-found-clause-gathers : goal.expand_line-returns-in-None-found-clause-gathers
-expand_line-returns-in-None-found-clause-gathers t c =
-    let context = alone (known_texts c.args.texts.now.known) c.args.way.now.items c.args.source.text in
-    line-faulted c.args.most c.args.entries.now.items (enter_with c.args.left) context c.args.state c.args.source c.args.line (Ref c.in-Ref.colour c.in-Ref.placement (Some c.in-Some.name)) _ _ c.fault-in-None-found.ensures (c.in-Ref.is ∙ ap (λ n. Ref c.in-Ref.colour c.in-Ref.placement n) c.in-Some.is) (ap (λ f. found_outcomes (enter_with c.args.left) context c.args.state c.args.source c.in-Ref.colour c.in-Ref.placement f) (sym c.in-None-found.ensures))
-
-pub expand_text-loop-line-init : goal.expand_text-loop-line-init
-expand_text-loop-line-init t c =
-    let texts = known_texts c.args.texts.now.known in
-    let state = c.start-state.ensures ∙ ap start (c.is_part.ensures) in
-    record { way = refl; extends = ([], sym (append-nil c.args.entries.now.items)); within = omega arith; rest = begun c.args.most c.args.left texts c.args.way.now.items c.args.text c.args.entries.now.items c.start-state.result state }
+pub expand_text-loop-met-init : goal.expand_text-loop-met-init
+expand_text-loop-met-init t c =
+    record { read = c.requires.read; way = refl; extends = ([], sym (append-nil c.args.entries.now.items)); within = omega arith; rest = begun c.args.most c.args.left (known_texts c.args.texts.now.known) c.args.way.now.items c.args.text c.args.entries.now.items c.under_laws.ensures }
 
 pub expand_text-returns-then-len-most-clause-gathers : goal.expand_text-returns-then-len-most-clause-gathers
 expand_text-returns-then-len-most-clause-gathers t c =
-    let many : c.args.most < length c.loop-line.entries.items = omega arith in
-    overfull c.args.most c.args.left (known_texts c.args.texts.now.known) c.args.way.now.items c.args.text c.args.entries.now.items c.loop-line.entries.items c.loop-line.state c.loop-line.before many c.loop-line.invariant.rest
+    let many : c.args.most < length c.loop-met.entries.items = omega arith in
+    overfull c.args.most c.args.left (known_texts c.args.texts.now.known) c.args.way.now.items c.args.text c.args.entries.now.items c.loop-met.entries.items c.loop-met.before many c.loop-met.invariant.rest
 
 pub expand_text-returns-in-Some-end-clause-gathers : goal.expand_text-returns-in-Some-end-clause-gathers
 expand_text-returns-in-Some-end-clause-gathers t c =
     let texts = known_texts c.args.texts.now.known in
     let way = c.args.way.now.items in
     let old = c.args.entries.now.items in
-    let at : slice_get (texts.lines c.args.text) c.loop-line.before ≡ Some (line_of c.in-Some.line.now) = sym c.in-Some.ensures.line in
-    let at' : slice_get (texts.lines c.args.text) c.loop-line.before ≡ Some c.in_ok-line.line = at ∙ ap (λ l. Some l) (sym c.in_ok-line.ensures.ok) in
-    let number : c.loop-line.before + 1 ≡ suc c.loop-line.before = omega arith in
-    let step : Gathers c.args.most c.loop-line.entries.items c.expand_line.new.entries.items (Some c.in-Some-end.fault) (line_outcomes (enter_with c.args.left) (alone texts way c.args.text) c.loop-line.state (record { text = c.args.text; line = c.loop-line.before + 1 }) c.in_ok-line.line) = subst (λ w. Gathers c.args.most c.loop-line.entries.items c.expand_line.new.entries.items (Some c.in-Some-end.fault) (line_outcomes (enter_with c.args.left) (alone texts w c.args.text) c.loop-line.state (record { text = c.args.text; line = c.loop-line.before + 1 }) c.in_ok-line.line)) c.loop-line.invariant.way (rw c.in-Some-end.is at c.in_ok-end.ensures.gathers) in
-    line-ended c.args.most c.args.left texts way c.args.text old c.loop-line.entries.items c.expand_line.new.entries.items c.loop-line.state c.next-after.result c.loop-line.before (c.loop-line.before + 1) c.in_ok-line.line at' number c.next-after.ensures c.loop-line.invariant.rest c.in-Some-end.fault step
+    let at : slice_get (mets_of texts c.args.text) c.loop-met.before ≡ Some c.in-Some.met = sym (rw c.in-Some.is at c.in_ok-met.ensures.met) in
+    let number : c.loop-met.before + 1 ≡ suc c.loop-met.before = omega arith in
+    let step : Gathers c.args.most c.loop-met.entries.items c.expand_met.new.entries.items (Some c.in-Some-end.fault) (met_outcomes (enter_with c.args.left) texts way c.in-Some.met) = subst (λ w. Gathers c.args.most c.loop-met.entries.items c.expand_met.new.entries.items (Some c.in-Some-end.fault) (met_outcomes (enter_with c.args.left) texts w c.in-Some.met)) c.loop-met.invariant.way (rw c.in-Some-end.is at c.in_ok-end.ensures.gathers) in
+    met-ended c.args.most c.args.left texts way c.args.text old c.loop-met.entries.items c.expand_met.new.entries.items c.loop-met.before (c.loop-met.before + 1) c.in-Some.met at number c.loop-met.invariant.rest c.in-Some-end.fault step
 
-pub expand_text-loop-line-smaller : goal.expand_text-loop-line-smaller
-expand_text-loop-line-smaller t c =
-    let lines = (known_texts c.args.texts.now.known).lines c.args.text in
-    let at : slice_get lines c.loop-line.before ≡ Some (line_of c.in-Some.line.now) = sym c.in-Some.ensures.line in
-    let within = slice_get_within lines c.loop-line.before (line_of c.in-Some.line.now) at in
+pub expand_text-loop-met-smaller : goal.expand_text-loop-met-smaller
+expand_text-loop-met-smaller t c =
+    let mets = mets_of (known_texts c.args.texts.now.known) c.args.text in
+    let at : slice_get mets c.loop-met.before ≡ Some c.in-Some.met = sym (rw c.in-Some.is at c.in_ok-met.ensures.met) in
+    let within = slice_get_within mets c.loop-met.before c.in-Some.met at in
     omega arith
 
-pub expand_text-loop-line-preserved : goal.expand_text-loop-line-preserved
-expand_text-loop-line-preserved t c =
+pub expand_text-loop-met-preserved : goal.expand_text-loop-met-preserved
+expand_text-loop-met-preserved t c =
     let texts = known_texts c.args.texts.now.known in
     let way = c.args.way.now.items in
     let old = c.args.entries.now.items in
-    let at : slice_get (texts.lines c.args.text) c.loop-line.before ≡ Some (line_of c.in-Some.line.now) = sym c.in-Some.ensures.line in
-    let at' : slice_get (texts.lines c.args.text) c.loop-line.before ≡ Some c.in_ok-line.line = at ∙ ap (λ l. Some l) (sym c.in_ok-line.ensures.ok) in
-    let number : c.loop-line.before + 1 ≡ suc c.loop-line.before = omega arith in
-    let within = slice_get_within (texts.lines c.args.text) c.loop-line.before (line_of c.in-Some.line.now) at in
-    let step : Gathers c.args.most c.loop-line.entries.items c.expand_line.new.entries.items None (line_outcomes (enter_with c.args.left) (alone texts way c.args.text) c.loop-line.state (record { text = c.args.text; line = c.loop-line.before + 1 }) c.in_ok-line.line) = subst (λ w. Gathers c.args.most c.loop-line.entries.items c.expand_line.new.entries.items None (line_outcomes (enter_with c.args.left) (alone texts w c.args.text) c.loop-line.state (record { text = c.args.text; line = c.loop-line.before + 1 }) c.in_ok-line.line)) c.loop-line.invariant.way (rw c.in_default-end.is at c.in_ok-end.ensures.gathers) in
+    let at : slice_get (mets_of texts c.args.text) c.loop-met.before ≡ Some c.in-Some.met = sym (rw c.in-Some.is at c.in_ok-met.ensures.met) in
+    let number : c.loop-met.before + 1 ≡ suc c.loop-met.before = omega arith in
+    let within = slice_get_within (mets_of texts c.args.text) c.loop-met.before c.in-Some.met at in
+    let step : Gathers c.args.most c.loop-met.entries.items c.expand_met.new.entries.items None (met_outcomes (enter_with c.args.left) texts way c.in-Some.met) = subst (λ w. Gathers c.args.most c.loop-met.entries.items c.expand_met.new.entries.items None (met_outcomes (enter_with c.args.left) texts w c.in-Some.met)) c.loop-met.invariant.way (rw c.in_default-end.is at c.in_ok-end.ensures.gathers) in
     record {
-      way = c.in_ok-end.ensures.way ∙ c.loop-line.invariant.way;
-      extends = extends-on old c.loop-line.entries.items c.expand_line.new.entries.items c.loop-line.invariant.extends c.in_ok-end.ensures.extends;
+      read = c.in_ok-end.ensures.read;
+      way = c.in_ok-end.ensures.way ∙ c.loop-met.invariant.way;
+      extends = extends-on old c.loop-met.entries.items c.expand_met.new.entries.items c.loop-met.invariant.extends c.in_ok-end.ensures.extends;
       within = omega arith;
-      rest = line-done c.args.most c.args.left texts way c.args.text old c.loop-line.entries.items c.expand_line.new.entries.items c.loop-line.state c.next-after.result c.loop-line.before (c.loop-line.before + 1) c.in_ok-line.line at' number c.next-after.ensures c.loop-line.invariant.rest step;
+      rest = met-done c.args.most c.args.left texts way c.args.text old c.loop-met.entries.items c.expand_met.new.entries.items c.loop-met.before (c.loop-met.before + 1) c.in-Some.met at number c.loop-met.invariant.rest step;
     }
 
 pub expand_text-returns-clause-gathers : goal.expand_text-returns-clause-gathers
 expand_text-returns-clause-gathers t c =
-    done c.args.most c.args.left (known_texts c.args.texts.now.known) c.args.way.now.items c.args.text c.args.entries.now.items c.loop-line.entries.items c.loop-line.state c.loop-line.before (sym c.in_default.ensures.line) c.loop-line.invariant.rest
+    let none : slice_get (mets_of (known_texts c.args.texts.now.known) c.args.text) c.loop-met.before ≡ None = sym (rw c.in_default.is at c.in_ok-met.ensures.met) in
+    done c.args.most c.args.left (known_texts c.args.texts.now.known) c.args.way.now.items c.args.text c.args.entries.now.items c.loop-met.entries.items c.loop-met.before none c.loop-met.invariant.rest

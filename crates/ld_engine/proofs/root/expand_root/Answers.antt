@@ -15,6 +15,7 @@ loop-line-init c =
     let ends : c.push.new.self.items ≡ 0 ∷ [] = c.in_ok-push.ensures.items ∙ ap (λ es. es ++ 0 ∷ []) c.in_ok-line_ends.ensures.items in
     let begun = root-begun c.args.most c.args.left texts c.args.root c.start-state.result state in
     record {
+      read = c.new-reading.ensures texts;
       way = c.new-way.ensures.items;
       left = c.into_iter-rest.ensures.rest ∙ c.requires.read;
       endless = refl;
@@ -44,6 +45,7 @@ loop-line-preserved c =
     let count : c.len-in-Some.result ≡ length new = omega arith in
     let passed = root-passed c.args.most c.args.left texts c.args.root given.entries.items given.line_ends.items c.loop-line.state c.loop-line.number c.loop-line.invariant.rooted new c.next-after.result c.in-Some.line at.0 c.next-after.ensures c.len-in-Some.result count few gives in
     record {
+      read = c.in_ok-given.ensures.read;
       way = c.in_ok-given.ensures.way ∙ c.loop-line.invariant.way;
       left = at.1;
       endless = endless;
