@@ -4,9 +4,6 @@ ghost use Rattle.ld_cmd.specs.Generator.{brick_lines, generated, number_line, re
 use itoa::Buffer;
 use std::alloc::{AllocError, Global};
 
-#[cfg(test)]
-mod tests;
-
 const GEN_BLOCK: &[u8] = b"0 FILE gen.ldr\n";
 
 const BRICK_BLOCK: &[u8] = b"0 FILE brick.dat

@@ -1,6 +1,7 @@
-// Cases in the form of `CASES`: models inlined, and each text read again. What it is read as is the drawn entries of the
-// model without their sources, all certified and counterclockwise, and its steps counted in them.
-pub(crate) const INLINED: &str = "@inline m.ldr --colours c.ldr
+// Models inlined, and each text read again. What it is read as is the drawn entries of the model without their sources, all
+// certified and counterclockwise, and its steps counted in them.
+pub(crate) const INLINED: &str = "@clip and winding
+inline m.ldr --colours c.ldr
 ^work c.ldr
 0 !COLOUR Red CODE 4 VALUE #C91A09 EDGE #333333
 0 !COLOUR Blue CODE 1 VALUE 0x0055bf EDGE 0
@@ -35,7 +36,8 @@ pub(crate) const INLINED: &str = "@inline m.ldr --colours c.ldr
 3 16 0 0 0 2 0 0 0 2 0\r
 5 24 0 0 0 1 0 0 0 1 0 0 0 1\r
 0 STEP\r
-@steps i.ldr --colours c.ldr
+@clip and winding, read again
+steps i.ldr --colours c.ldr
 ^work c.ldr
 0 !COLOUR Red CODE 4 VALUE #C91A09 EDGE #333333
 0 !COLOUR Blue CODE 1 VALUE 0x0055bf EDGE 0
@@ -60,7 +62,8 @@ tri 16 - cert noclip ccw 0,1,0 1,0,0 0,0,0 model/i.ldr:5
 quad 16 - cert clip ccw 0,1,0 1,1,0 1,0,0 0,0,0 model/i.ldr:7
 tri 16 - cert noclip ccw 0,0,0 2,0,0 0,2,0 model/i.ldr:9
 opt 24 - cert noclip ccw 0,0,0 1,0,0 0,1,0 0,0,1 model/i.ldr:10
-@inline m.ldr --colours c.ldr
+@views
+inline m.ldr --colours c.ldr
 ^work c.ldr
 0 !COLOUR Red CODE 4 VALUE #C91A09 EDGE #333333
 0 !COLOUR Blue CODE 1 VALUE 0x0055bf EDGE 0
@@ -101,7 +104,8 @@ opt 24 - cert noclip ccw 0,0,0 1,0,0 0,1,0 0,0,1 model/i.ldr:10
 0 STEP\r
 2 24 0 0 0 3 0 0\r
 0 STEP\r
-@steps i.ldr --colours c.ldr
+@views, read again
+steps i.ldr --colours c.ldr
 ^work c.ldr
 0 !COLOUR Red CODE 4 VALUE #C91A09 EDGE #333333
 0 !COLOUR Blue CODE 1 VALUE 0x0055bf EDGE 0
@@ -142,7 +146,8 @@ step 11 entries 0 view -
 step 12 entries 0 view -
 step 13 entries 1 view -
 line 24 - cert noclip ccw 0,0,0 3,0,0 model/i.ldr:17
-@inline m.ldr --colours c.ldr
+@edge colours
+inline m.ldr --colours c.ldr
 ^work c.ldr
 0 !COLOUR Red CODE 4 VALUE #C91A09 EDGE #333333
 0 !COLOUR Blue CODE 1 VALUE 0x0055bf EDGE 0
@@ -170,7 +175,8 @@ line 24 - cert noclip ccw 0,0,0 3,0,0 model/i.ldr:17
 2 24 0 0 0 1 0 0\r
 3 16 0 0 0 1 0 0 0 1 0\r
 0 STEP\r
-@steps i.ldr --colours c.ldr
+@edge colours, read again
+steps i.ldr --colours c.ldr
 ^work c.ldr
 0 !COLOUR Red CODE 4 VALUE #C91A09 EDGE #333333
 0 !COLOUR Blue CODE 1 VALUE 0x0055bf EDGE 0
@@ -199,7 +205,8 @@ line 0x2333333 #333333 cert noclip ccw 0,0,0 1,0,0 model/i.ldr:8
 tri 0x2FF8000 #FF8000 cert noclip ccw 0,0,0 1,0,0 0,1,0 model/i.ldr:9
 line 24 - cert noclip ccw 0,0,0 1,0,0 model/i.ldr:10
 tri 16 - cert noclip ccw 0,0,0 1,0,0 0,1,0 model/i.ldr:11
-@inline m.ldr --colours c.ldr
+@placed parts
+inline m.ldr --colours c.ldr
 ^work c.ldr
 0 !COLOUR Red CODE 4 VALUE #C91A09 EDGE #333333
 0 !COLOUR Blue CODE 1 VALUE 0x0055bf EDGE 0
@@ -229,7 +236,8 @@ tri 16 - cert noclip ccw 0,0,0 1,0,0 0,1,0 model/i.ldr:11
 2 0x205131D 0 5 0 1 5 0\r
 4 1 0 0 0 1 0 0 1 1 0 0 1 0\r
 0 STEP\r
-@steps i.ldr --colours c.ldr
+@placed parts, read again
+steps i.ldr --colours c.ldr
 ^work c.ldr
 0 !COLOUR Red CODE 4 VALUE #C91A09 EDGE #333333
 0 !COLOUR Blue CODE 1 VALUE 0x0055bf EDGE 0

@@ -13,6 +13,7 @@ use Rattle.ld_script.specs.Fields.{cut_at_tab}
 use Rattle.ld_script.specs.Script.{command_of, commands_of}
 use Rattle.ld_engine.specs.Learning.{learning_by}
 use Rattle.ld_words.specs.Words.{intent_of}
+use Rattle.ld_cmd.specs.Generator.{generated}
 use Rattle.ld_cmd.specs.Output.{output, replayed}
 use Rattle.ld_cmd.specs.Playing.{played}
 use Rattle.ld_cmd.proofs.tests.outputs_by_definition.Goals as goal
@@ -29,10 +30,28 @@ pub returns-clause-edits : goal.returns-clause-edits
 unfolding output intent_of normal_of same_file known_map lines_of lines_from block_line_of fields after_field decimal_number blocks_of text_blocks id_of file_at lines_at cut_at_tab command_of commands_of learning_by replayed played digits
 returns-clause-edits c = refl
 
-pub returns-clause-folder : goal.returns-clause-folder
+pub returns-clause-model_folders : goal.returns-clause-model_folders
 unfolding rsplit_once
-returns-clause-folder c = refl
+returns-clause-model_folders c = refl
 
-pub returns-clause-root : goal.returns-clause-root
-unfolding rsplit_once
-returns-clause-root c = refl
+pub returns-clause-library_folders : goal.returns-clause-library_folders
+returns-clause-library_folders c = refl
+
+pub returns-clause-exit_codes : goal.returns-clause-exit_codes
+returns-clause-exit_codes c = refl
+
+pub returns-clause-one_brick : goal.returns-clause-one_brick
+unfolding generated digits
+returns-clause-one_brick c = refl
+
+pub returns-clause-eleven_bricks : goal.returns-clause-eleven_bricks
+unfolding generated digits
+returns-clause-eleven_bricks c = refl
+
+pub returns-clause-last_brick : goal.returns-clause-last_brick
+unfolding digits
+returns-clause-last_brick c = refl
+
+pub returns-clause-summary : goal.returns-clause-summary
+unfolding digits
+returns-clause-summary c = refl
