@@ -4,8 +4,8 @@ use Rattle.ld_io.specs.Shelf.{Files}
 use Rattle.ld_cmd.specs.declared.status.Status.{Status}
 use Rattle.ld_cmd.specs.declared.status.Status.TheVariants.{Done, Faulted, Usage, Input, ReadFault, WriteFault, Memory, Limit}
 use Rattle.ld_cmd.specs.Ending.{EndsAs, IsComplete, Takes}
-use Rattle.ld_words.specs.Words.{Intent, intent_of}
-use Rattle.ld_cmd.specs.Output.{commanded, output, usage, usage_line}
+use Rattle.ld_words.specs.Words.{Intent, intent_of, usage_line}
+use Rattle.ld_cmd.specs.Output.{commanded, output, usage}
 use Rattle.ld_cmd.specs.Written.{Output}
 
 -- the status of a run over files that are told

@@ -1,6 +1,7 @@
 -- One command, and those that follow.
 use Rattle.std.proofs.Common.{◌≡◌, ◌<◌, ◌≤◌, ◌+◌, ◌++◌, ℕ, zero, suc, List, [], ◌∷◌, take, length, Option, Some, None, Result, Ok, Err, IfErr, IfSome, OnOk, is_some, sym, ap, refl, ◌∙◌, subst, append_assoc, append-nil, arith}
 use Rattle.std.specs.List.{concat}
+use Rattle.std.specs.Prelude.{⊤}
 use Rattle.std.proofs.lemmas.List.{length-append, take-append-le}
 use Rattle.ld_io.specs.Shelf.{Files}
 use Rattle.ld_names.specs.Standing.{Known}
@@ -11,6 +12,9 @@ use Rattle.ld_cmd.specs.Ending.{EndsAs, Interruption, IsStoppedPut, Reading, Wri
 use Rattle.ld_cmd.specs.Leaving.{Leaves, TakesFewer, TakesUpTo}
 use Rattle.ld_cmd.specs.Playing.{Setting, Replied, Reply, Ends, followed, played, replied_to}
 use Rattle.ld_cmd.specs.Written.{Output, one_piece, onto}
+
+pub just : {A : Type 0} (a b : A) → Some a ≡ Some b → a ≡ b
+just a b same = cc
 
 -- the part of the pieces that stands behind a whole first one
 take-behind : (first more : List ℕ) (n : ℕ) → take (length first + n) (first ++ more) ≡ first ++ take n more
@@ -76,9 +80,6 @@ onto-goes_on piece more status (Some before) None after told puts left = absurd 
 onto-goes_on piece more status (Some before) (Some between) after told puts left =
     let is : between ≡ before ++ piece = just between (before ++ piece) (puts ∙ ap (λ bytes. Some (before ++ bytes)) (append-nil piece)) in
     (left.0, takes-behind (interruption_of status) piece more.pieces before after (subst (λ old. TakesUpTo (interruption_of status) more.pieces old after) is left.1))
-  where
-    just : (a b : List ℕ) → Some a ≡ Some b → a ≡ b
-    just a b same = cc
 
 -- a reply that is not taken whole
 onto-stops : (piece : List ℕ) (more : Output) (status : Status) (before after : Option (List ℕ)) → IsStoppedPut status → IfSome before (λ old. Takes status (piece ∷ []) old after) → LeavesOf (onto piece more) status before after
@@ -87,8 +88,8 @@ onto-stops piece more status (Some before) after stops takes = (ends-any status 
 
 -- reading or memory stopped a run before it put a piece
 abbrev pub Unanswered : Status → Type 0
-Unanswered ReadFault = Unit {0}
-Unanswered Memory = Unit {0}
+Unanswered ReadFault = ⊤
+Unanswered Memory = ⊤
 Unanswered Done = ⊥
 Unanswered Faulted = ⊥
 Unanswered Usage = ⊥
@@ -197,6 +198,3 @@ pub front-on : (first between after : Option (List ℕ)) → IfSome first (λ ol
 front-on None between after before more = tt
 front-on (Some first) None after before more = let is = before.1 in absurd (cc)
 front-on (Some first) (Some between) after before more = (before.0 ++ more.0, more.1 ∙ ap Some (ap (λ taken. taken ++ more.0) (just between (first ++ before.0) before.1) ∙ append_assoc first before.0 more.0))
-  where
-    just : (a b : List ℕ) → Some a ≡ Some b → a ≡ b
-    just a b same = cc

@@ -2,13 +2,12 @@
 use Rattle.std.proofs.Common.{◌≡◌, ℕ, List, Option, Some, None, Result, Ok, Err, IfSome, refl, ap, sym, ◌∙◌}
 use Rattle.ld_io.specs.Shelf.{Files}
 use Rattle.ld_names.specs.Standing.{Known, known_map}
-use Rattle.ld_names.specs.Finding.{IsFileEquality}
 use Rattle.ld_names.specs.declared.file.FileId.{FileId}
 use Rattle.ld_texts.specs.Known.{AreDistinct, id_of}
 use Rattle.ld_colour.specs.declared.colour.Colour.{Colour}
 use Rattle.ld_entry.specs.declared.entry.Fault.{Fault as LineFault}
 use Rattle.ld_engine.specs.Asking.{Answers, AnswersTold, IsAnswered}
-use Rattle.ld_engine.specs.Laws.{StandsForRoots}
+use Rattle.ld_engine.specs.Laws.{MainIsFirst, StandsForRoots}
 use Rattle.ld_engine.specs.Learning.{Stop, learning, learnt, text_on}
 use Rattle.ld_engine.specs.declared.asking.Answer.{Answer}
 use Rattle.ld_engine.specs.declared.asking.AnswerError.{AnswerError}
@@ -19,7 +18,6 @@ use Rattle.ld_words.specs.Words.{Options}
 use Rattle.ld_cmd.specs.Written.{Output}
 use Rattle.ld_cmd.specs.Made.{queried_output}
 use Rattle.ld_cmd.specs.Output.{learnt_output, limits_of, main_output, shown_or_fault}
-use Rattle.ld_cmd.proofs.First.{first-numbered, first-there}
 use Rattle.ld_cmd.specs.Querying.{IsFirst, Queried, Queries, answer_at, answer_queried, queried_as, queried, queried_on, where_there}
 
 module _ (limits : Limits) (files : Files) (root : FileId) (colour : Colour) (old new : Known) (stands : StandsForRoots) (distinct : AreDistinct new) where
@@ -52,14 +50,15 @@ module _ (show : Known → Answer → Output) (options : Options) (files : Files
   given-output known (Ok answer) = refl
   given-output known (Err fault) = refl
 
-  learnt-output : (lines : List (List ℕ)) (known : Known) (stop : Option Stop) → known_map known main ≡ Some (Some lines) → id_of known main ≡ Some 0 → queried_output show known (queried_on (limits_of options) files main (colour_of options.main) known stop) ≡ Some (learnt_output show options files known stop)
+  pub learnt-output : (lines : List (List ℕ)) (known : Known) (stop : Option Stop) → known_map known main ≡ Some (Some lines) → id_of known main ≡ Some 0 → queried_output show known (queried_on (limits_of options) files main (colour_of options.main) known stop) ≡ Some (learnt_output show options files known stop)
   learnt-output lines known (Some stop) there number = refl
   learnt-output lines known None there number = rw there (rw number (given-output known (answer_at (limits_of options) files (colour_of options.main) known 0)))
 
-  pub main-told : (equal : IsFileEquality) (old new : Known) (first : IsFirst main new) (found : Option Queried) → IfSome found (λ given. Queries (limits_of options) files main (colour_of options.main) old new given) → IfSome found (λ given. queried_output show new given ≡ Some (main_output show options files main old))
-  main-told equal old new first None is = tt
-  main-told equal old new first (Some given) is =
+  pub main-told : (law : MainIsFirst) (old new : Known) (first : IsFirst main new) (found : Option Queried) → IfSome found (λ given. Queries (limits_of options) files main (colour_of options.main) old new given) → IfSome found (λ given. queried_output show new given ≡ Some (main_output show options files main old))
+  main-told law old new first None is = tt
+  main-told law old new first (Some given) is =
       let all = learning (limits_of options) files main old in
       let known : all.known ≡ new = is.known in
-      let output = learnt-output first.0 all.known all.stop (rw known (first-there main new equal first)) (rw known (first-numbered main new equal first)) in
+      let says = law.says main first.0 new first.1 in
+      let output = learnt-output first.0 all.known all.stop (rw known says.1) (rw known says.0) in
       ap (λ texts. queried_output show texts given) (sym known) ∙ ap (queried_output show all.known) (sym is.is) ∙ output

@@ -1,6 +1,6 @@
 -- An answer has no more entries than it may have, and its steps cover them.
 use Rattle.std.proofs.Common.{◌≡◌, ◌≤◌, ◌<◌, ◌⊎◌, get_or, ◌∙◌, ℕ, List, Option, Some, None, Result, Ok, Err, length, slice_get, inl, inr, sym, subst, ap, refl, rules, IfOk}
-use Rattle.std.proofs.lemmas.Option.{slice_get_cases}
+use Rattle.std.proofs.lemmas.Option.{none-some, slice_get_cases}
 use Rattle.ld_names.specs.Standing.{Known}
 use Rattle.ld_names.specs.declared.file.FileId.{FileId}
 use Rattle.ld_names.specs.declared.file.TextId.{TextId}
@@ -24,10 +24,7 @@ ended entries given None is = search rules
 ended entries given (Some fault) is = cc
 
 not-inside : (most : ℕ) (entries : List Entry) → slice_get entries most ≡ None → ((entry : Entry) × (most < length entries) × (slice_get entries most ≡ Some entry) × (get_or entries most entry ≡ entry)) ⊎ ((length entries ≤ most) × (slice_get entries most ≡ None)) → length entries ≤ most
-not-inside most entries none (inl inside) = let some = inside.2 in absurd (none≢some (sym none ∙ some))
-  where
-    none≢some : {entry : Entry} → None ≡ Some entry → ⊥
-    none≢some is = cc
+not-inside most entries none (inl inside) = let some = inside.2 in absurd (none-some inside.0 (sym none ∙ some))
 not-inside most entries none (inr past) = past.0
 
 by-size : (most : ℕ) (entries given : List Entry) (end : Option Fault) (found : Option Entry) → slice_get entries most ≡ found → unless_too_many found entries end ≡ Ok given → length given ≤ most

@@ -25,8 +25,8 @@ edit-told limits files edit old new (Err (Full over)) told = sym (ap (λ all. ed
 edit-told limits files edit old new (Err ReadFault) told = tt
 edit-told limits files edit old new (Err Memory) told = tt
 
-pub query-told : (what : Shown) (table : Counting) (limits : Limits) (files : Files) (root : FileId) (colour : Colour) (old new : Known) (found : Option Queried) → IfSome found (λ given. Queries limits files root colour old new given) → IfSome found (λ given. query_reply what table new given ≡ query_step limits files old what table root colour)
-query-told what table limits files root colour old new None is = tt
-query-told what table limits files root colour old new (Some given) is =
+pub step-told : (what : Shown) (table : Counting) (limits : Limits) (files : Files) (root : FileId) (colour : Colour) (old new : Known) (found : Option Queried) → IfSome found (λ given. Queries limits files root colour old new given) → IfSome found (λ given. query_reply what table new given ≡ query_step limits files old what table root colour)
+step-told what table limits files root colour old new None is = tt
+step-told what table limits files root colour old new (Some given) is =
     let all = learning limits files root old in
     ap (λ known. query_reply what table known given) (sym is.known) ∙ ap (query_reply what table all.known) (sym is.is)

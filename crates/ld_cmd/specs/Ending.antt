@@ -73,9 +73,9 @@ abbrev pub StandsInFront : List ℕ → Option (List ℕ) → Type 0
 StandsInFront before after = (more : List ℕ) × (after ≡ Some (before ++ more))
 
 abbrev pub NothingAfter : Option Interruption → List ℕ → Option (List ℕ) → Type 0
-NothingAfter None before after = Unit {0}
+NothingAfter None before after = ⊤
 NothingAfter (Some Reading) before after = after ≡ Some before
-NothingAfter (Some Writing) before after = Unit {0}
+NothingAfter (Some Writing) before after = ⊤
 NothingAfter (Some Room) before after = after ≡ Some before
 
 -- all is put in one piece: only a script's replies are not

@@ -1,6 +1,7 @@
 pub mod Ending
 pub mod Folders
 pub mod Generator
+pub mod Laws
 pub mod Leaving
 pub mod Made
 pub mod Output

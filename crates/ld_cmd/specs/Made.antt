@@ -1,5 +1,5 @@
 -- What the code's values say.
-use Rattle.std.specs.Prelude.{◌≡◌, Option, Some, None, Result, Ok, Err}
+use Rattle.std.specs.Prelude.{◌≡◌, Option, Some, None, Result, Ok, Err, ⊤}
 use Rattle.ld_cmd.specs.Written.{Output, one_piece, stop_text}
 use Rattle.ld_cmd.specs.Querying.{Queried, Stopped, NoRoot, FirstFault, Answered}
 use Rattle.ld_engine.specs.declared.asking.Answer.{Answer}
@@ -16,8 +16,8 @@ output_of m = one_piece m.text.items m.status
 -- this is the output, unless reading or memory stopped the run
 abbrev pub Stops : Output → Stop → Type 0
 Stops wanted (Decided made) = output_of made ≡ wanted
-Stops wanted ReadFault = Unit {0}
-Stops wanted Memory = Unit {0}
+Stops wanted ReadFault = ⊤
+Stops wanted Memory = ⊤
 
 abbrev pub Makes : Output → Result Made Stop → Type 0
 Makes wanted (Ok made) = output_of made ≡ wanted
@@ -34,5 +34,5 @@ queried_output show known (Answered answer) = Some (show known answer)
 abbrev pub Gives : {A B : Type 0} → (B → A) → Result A Output → Result B Stop → Type 0
 Gives view wanted (Ok value) = wanted ≡ Ok (view value)
 Gives view wanted (Err (Decided made)) = wanted ≡ Err (output_of made)
-Gives view wanted (Err ReadFault) = Unit {0}
-Gives view wanted (Err Memory) = Unit {0}
+Gives view wanted (Err ReadFault) = ⊤
+Gives view wanted (Err Memory) = ⊤

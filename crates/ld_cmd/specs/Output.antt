@@ -22,24 +22,19 @@ use Rattle.ld_engine.specs.declared.asking.Answer.{Answer}
 use Rattle.ld_entry.specs.declared.entry.Fault.{Fault}
 use Rattle.ld_engine.specs.declared.limits.Limits.{Limits}
 use Rattle.ld_report.specs.Entries.{fault_text}
-use Rattle.ld_words.specs.Words.{Intent, Options, Task, Show, Replay, Generate, intent_of}
-use Rattle.ld_words.specs.declared.listing.Listing.{Listing}
-use Rattle.ld_words.specs.declared.listing.Listing.TheVariants as listing
+use Rattle.ld_words.specs.Words.{Intent, Options, Task, Show, Replay, Generate, intent_of, usage_line}
 use Rattle.ld_cmd.specs.Generator.{generated}
 use Rattle.ld_cmd.specs.declared.answer.Form.{Form}
 use Rattle.ld_cmd.specs.declared.answer.Form.TheVariants.{Listed, Inlined}
-use Rattle.ld_cmd.specs.declared.answer.Shown.TheVariants.{Faces, Steps, Parts, Summary}
+use Rattle.ld_cmd.specs.declared.answer.Shown.TheVariants.{Summary}
 use Rattle.ld_cmd.specs.declared.status.Status.TheVariants as status
 use Rattle.ld_script.specs.Script.{commands_of}
 use Rattle.ld_script.specs.declared.command.Command.{Command}
-use Rattle.ld_cmd.specs.Playing.{played}
-use Rattle.ld_cmd.specs.Written.{Output, and_then, one_piece, over_text, shown_text, stop_text}
+use Rattle.ld_cmd.specs.Playing.{Setting, played}
+use Rattle.ld_cmd.specs.Written.{Output, and_then, form_of, one_piece, over_text, shown_text, stop_text}
 use Rattle.ld_cmd.specs.Querying.{answer_at}
 
 -- ---- 1. Words that are no command.
-
-abbrev pub usage_line : List ℕ
-usage_line = codes "usage: ldraw (faces|steps|parts|inline|check) FILE | replay FILE SCRIPT | gen N\n"
 
 abbrev pub usage : Output
 usage = one_piece usage_line status.Usage
@@ -165,10 +160,13 @@ check_output file options files =
 
 -- ---- 7. Scripts.
 
+-- what stays the same while a script is answered
+abbrev pub setting_of : Options → Counting → FileId → Setting
+setting_of options table main = record { limits = limits_of options; table = table; main = main; colour = options.main }
+
 -- the output of a script over a model, once its texts are known
 abbrev pub main_replayed : Options → Counting → List Command → Files → FileId → Known → Output
-main_replayed options table commands files main known =
-    played (record { limits = limits_of options; table = table; main = main; colour = options.main }) files known commands
+main_replayed options table commands files main known = played (setting_of options table main) files known commands
 
 -- over a model by its name and its bytes
 unfoldable pub replayed : Options → Counting → List Command → Files → List ℕ → List ℕ → Output
@@ -182,15 +180,13 @@ replay_output file script options files =
 
 -- ---- The whole.
 
-abbrev pub listing_output : Listing → List ℕ → Options → Files → Output
-listing_output listing.Faces file options files = shown_output (Listed Faces) file options files
-listing_output listing.Steps file options files = shown_output (Listed Steps) file options files
-listing_output listing.Parts file options files = shown_output (Listed Parts) file options files
-listing_output listing.Inline file options files = shown_output Inlined file options files
-listing_output listing.Check file options files = check_output file options files
+-- of an answer in this form, or what is found
+abbrev pub form_output : Option Form → List ℕ → Options → Files → Output
+form_output (Some what) file options files = shown_output what file options files
+form_output None file options files = check_output file options files
 
 abbrev pub task_output : Task → Options → Files → Output
-task_output (Show what file) options files = listing_output what file options files
+task_output (Show what file) options files = form_output (form_of what) file options files
 task_output (Replay file script) options files = replay_output file script options files
 task_output (Generate count) options files = generated_output count options files
 

@@ -76,9 +76,9 @@ abbrev pub root_of : Setting → Option Root → FileId
 root_of setting None = setting.main
 root_of setting (Some root) = root.file
 
-abbrev pub colour_number : Setting → Option Root → ℕ
-colour_number setting None = setting.colour
-colour_number setting (Some root) = root.colour
+abbrev pub root_colour : Setting → Option Root → ℕ
+root_colour setting None = setting.colour
+root_colour setting (Some root) = root.colour
 
 -- by what the query comes to
 abbrev pub query_reply : Shown → Counting → Known → Queried → Replied
@@ -96,7 +96,7 @@ query_step limits files known what table root colour =
 
 abbrev pub replied_to : Setting → Files → Known → Command → Replied
 replied_to setting files known (command.Edit edit) = edit_step setting.limits files known edit
-replied_to setting files known (command.Ask what root) = query_step setting.limits files known (shown_by what) setting.table (root_of setting root) (colour_of (colour_number setting root))
+replied_to setting files known (command.Ask what root) = query_step setting.limits files known (shown_by what) setting.table (root_of setting root) (colour_of (root_colour setting root))
 replied_to setting files known (command.Bad number) = Reply (codes "refused script\n") known
 
 -- a step, and what follows it

@@ -9,6 +9,7 @@ use Rattle.ld_colour.specs.declared.colour.Colour.{Colour}
 use Rattle.ld_entry.specs.NumberedTexts.{standing_texts}
 use Rattle.ld_entry.specs.declared.entry.Fault.{Fault}
 use Rattle.ld_engine.specs.Learning.{Learnt, Stop, TooBig, Full, learning, text_on}
+use Rattle.ld_engine.specs.Loading.{BeginsWith}
 use Rattle.ld_engine.specs.Stepping.{answer_with_steps}
 use Rattle.ld_engine.specs.declared.asking.Answer.{Answer}
 use Rattle.ld_engine.specs.declared.asking.AnswerError.{AnswerError}
@@ -56,10 +57,7 @@ answer_queried (Err refused.NoRoot) = Some NoRoot
 answer_queried (Err refused.ReadFault) = None
 answer_queried (Err refused.Memory) = None
 
--- the file is the first that is known, and it is there with these lines
-abbrev pub BeginsWith : FileId → List (List ℕ) → Known → Type 0
-BeginsWith file lines known = (rest : Known) × (known ≡ (file, Some lines) ∷ rest)
-
+-- the file is the first that is known, and it is there
 abbrev pub IsFirst : FileId → Known → Type 0
 IsFirst file known = (lines : List (List ℕ)) × BeginsWith file lines known
 

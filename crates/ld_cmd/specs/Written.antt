@@ -1,5 +1,5 @@
 -- What a run writes: its pieces and its status, and the texts of answers and of limits (this project's own).
-use Rattle.std.specs.Prelude.{ℕ, List, [], ◌∷◌, ◌++◌, length, Result, Ok, Err, codes, decimal}
+use Rattle.std.specs.Prelude.{ℕ, List, [], ◌∷◌, ◌++◌, length, Option, Some, None, Result, Ok, Err, codes, decimal}
 use Rattle.ld_names.specs.Standing.{Known}
 use Rattle.ld_texts.specs.declared.change.Over.{Over}
 use Rattle.ld_texts.specs.declared.change.Over.TheVariants as over
@@ -10,7 +10,11 @@ use Rattle.ld_report.specs.Entries.{entries_text}
 use Rattle.ld_report.specs.Parts.{parts_of, parts_text}
 use Rattle.ld_report.specs.Pieces.{file_text}
 use Rattle.ld_report.specs.Steps.{steps_text}
+use Rattle.ld_words.specs.declared.listing.Listing.{Listing}
+use Rattle.ld_words.specs.declared.listing.Listing.TheVariants as listing
 use Rattle.ld_cmd.specs.Generator.{summary_text}
+use Rattle.ld_cmd.specs.declared.answer.Form.{Form}
+use Rattle.ld_cmd.specs.declared.answer.Form.TheVariants.{Listed, Inlined}
 use Rattle.ld_cmd.specs.declared.answer.Shown.{Shown}
 use Rattle.ld_cmd.specs.declared.answer.Shown.TheVariants.{Faces, Steps, Parts, Summary}
 use Rattle.ld_cmd.specs.declared.status.Status.{Status}
@@ -48,3 +52,11 @@ shown_text Faces table known answer = entries_text known table answer.entries
 shown_text Steps table known answer = steps_text known table answer.entries answer.steps
 shown_text Parts table known answer = parts_text known (parts_of answer.entries)
 shown_text Summary table known answer = summary_text (length answer.entries) (length (parts_of answer.entries)) (length answer.steps)
+
+-- what a command makes of an answer, if it asks for one
+abbrev pub form_of : Listing → Option Form
+form_of listing.Faces = Some (Listed Faces)
+form_of listing.Steps = Some (Listed Steps)
+form_of listing.Parts = Some (Listed Parts)
+form_of listing.Inline = Some Inlined
+form_of listing.Check = None

@@ -9,7 +9,7 @@ ghost use Rattle.ld_steps.specs.Laws.{AreSteps};
 ghost use Rattle.ld_cmd.specs.Made.{Makes};
 ghost use Rattle.ld_cmd.specs.Output.{answered_output, inlined_output};
 ghost use Rattle.ld_cmd.specs.Generator.{summary_text};
-ghost use Rattle.ld_cmd.specs.Written.{shown_text};
+ghost use Rattle.ld_cmd.specs.Written.{form_of, shown_text};
 
 use crate::generator::summary;
 use crate::lines::about_number;
@@ -21,6 +21,7 @@ use ld_entry::Entry;
 use ld_inline::{InlineError, inline};
 use ld_report::{parts_list, print_entries, print_parts, print_steps};
 use ld_texts::Texts;
+use ld_words::Listing;
 use std::alloc::{AllocError, Global};
 
 // What a command shows of an answer.
@@ -38,6 +39,19 @@ pub(crate) enum Form {
     Listed(Shown),
     // One text without references.
     Inlined,
+}
+
+// What a command makes of an answer, if it asks for one.
+pub(crate) fn form_of(what: Listing) -> Option<Form>
+    ensures { result ≡ form_of what }
+{
+    match what {
+        Listing::Faces => Some(Form::Listed(Shown::Faces)),
+        Listing::Steps => Some(Form::Listed(Shown::Steps)),
+        Listing::Parts => Some(Form::Listed(Shown::Parts)),
+        Listing::Inline => Some(Form::Inlined),
+        Listing::Check => None,
+    }
 }
 
 pub(crate) fn make_answer(

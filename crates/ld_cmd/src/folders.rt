@@ -32,7 +32,8 @@ pub(crate) fn library_folder(
     alloc: Global,
     set: Result<String, VarError>,
 ) -> Result<String, Unusable>
-    ensures { (result ≡ Err Unusable.Memory) ⊎ (result_map_both string_bytes (λ e. e) result ≡ library_folder (result_map_both string_bytes (λ e. e) set)) }
+    // Memory is lacking only where the folder is made up here, or the system said so.
+    ensures { ((result ≡ Err Unusable.Memory) × (set ≡ Err VarError.NotPresent)) ⊎ (result_map_both string_bytes (λ e. e) result ≡ library_folder (result_map_both string_bytes (λ e. e) set)) }
 {
     match set {
         Ok(folder) => Ok(folder),

@@ -6,6 +6,7 @@ mod check;
 mod folders;
 mod generator;
 mod inputs;
+mod laws;
 mod lines;
 mod made;
 mod make;
@@ -22,6 +23,7 @@ mod status;
 #[cfg(test)]
 mod tests;
 
+pub use laws::{ending_law, query_law};
 pub use run::run;
 pub use status::Status;
 use std::process::ExitCode;

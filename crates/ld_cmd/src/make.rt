@@ -10,11 +10,11 @@ ghost use Rattle.ld_io.specs.Shelf.{Files};
 ghost use Rattle.ld_cmd.specs.Ending.{PutsOnce, PutsOnceFor};
 ghost use Rattle.ld_cmd.specs.Made.{Makes};
 ghost use Rattle.ld_cmd.specs.Replying.{IsNoScript, OpensSession, Works};
-ghost use Rattle.ld_cmd.specs.Written.{Output};
+ghost use Rattle.ld_cmd.specs.Written.{Output, form_of};
 ghost use Rattle.ld_cmd.specs.declared.made.Stop.{Stop};
-ghost use Rattle.ld_cmd.specs.Output.{after_slash, generated_output, limits_of, listing_output, name_or_default, output, own_name, shown_output, task_output};
+ghost use Rattle.ld_cmd.specs.Output.{after_slash, form_output, generated_output, limits_of, name_or_default, output, own_name, shown_output, task_output};
 
-use crate::answer::{Form, Shown};
+use crate::answer::{Form, Shown, form_of};
 use crate::check::check_file;
 use crate::generator::generate;
 use crate::inputs::{read_input, read_table};
@@ -95,17 +95,14 @@ fn show_listing<S: Shelf>(
     shelf: &mut S,
 ) -> Result<Made, Stop>
     requires bounds { bad_limit (limits_of (options_shown options.now)) ≡ None }
-    ensures told { IfSome (S.files shelf.old) (λ files. Makes (listing_output what file.now (options_shown options.now) files) result) }
+    ensures told { IfSome (S.files shelf.old) (λ files. Makes (form_output (form_of what) file.now (options_shown options.now) files) result) }
     ensures cause { result ≡ Err Stop.ReadFault → HasRisen (S.faults shelf.old) (S.faults shelf.new) }
     ensures same { S.files shelf.new ≡ S.files shelf.old }
     ensures never_falls { S.faults shelf.old ≤ S.faults shelf.new }
 {
-    match what {
-        Listing::Faces => show_file(alloc, Form::Listed(Shown::Faces), file, options, shelf),
-        Listing::Steps => show_file(alloc, Form::Listed(Shown::Steps), file, options, shelf),
-        Listing::Parts => show_file(alloc, Form::Listed(Shown::Parts), file, options, shelf),
-        Listing::Inline => show_file(alloc, Form::Inlined, file, options, shelf),
-        Listing::Check => check_file(alloc, file, options, shelf),
+    match form_of(what) {
+        Some(form) => show_file(alloc, form, file, options, shelf),
+        None => check_file(alloc, file, options, shelf),
     }
 }
 

@@ -5,14 +5,14 @@ ghost use Rattle.ld_io.specs.Faults.{HasRisen};
 ghost use Rattle.ld_mpd.specs.Blocks.{text_blocks, text_of};
 ghost use Rattle.ld_colour.specs.Table.{counting};
 ghost use Rattle.ld_engine.specs.Limits.{bad_limit};
-ghost use Rattle.ld_engine.specs.Loading.{load};
+ghost use Rattle.ld_engine.specs.Loading.{BeginsWith, load};
 ghost use Rattle.ld_report.specs.Entries.{fault_text};
 ghost use Rattle.ld_steps.specs.Laws.{AreSteps};
 ghost use Rattle.ld_words.specs.Shown.{options_shown};
 ghost use Rattle.ld_cmd.specs.Made.{Gives, Makes, queried_output};
 ghost use Rattle.ld_cmd.specs.Output.{answered_output, file_bytes, limits_of, loaded_by, main_file, main_output, model_output};
 ghost use Rattle.ld_cmd.specs.Written.{Output, shown_text};
-ghost use Rattle.ld_cmd.specs.Querying.{BeginsWith, IsFirst, answer_queried};
+ghost use Rattle.ld_cmd.specs.Querying.{IsFirst, answer_queried};
 
 use crate::answer::{Form, make_answer};
 use crate::inputs::FILE_BYTES;
@@ -21,10 +21,10 @@ use crate::made::{Made, Stop};
 use crate::query::ask;
 use crate::status::Status;
 use ld_colour::{Table, colour_of};
-use ld_engine::{Answer, AnswerError, Limits, LoadError, OpenError, Workspace};
+use ld_engine::{Answer, AnswerError, Limits, LoadError, OpenError, Workspace, first_law};
 use ld_entry::Fault;
 use ld_io::Shelf;
-use ld_names::{FileId, Name, file_laws};
+use ld_names::{FileId, Name};
 use ld_report::print_fault;
 use ld_texts::Texts;
 use ld_words::Options;
@@ -102,6 +102,7 @@ pub(crate) fn load_model(
     ensures first { IfOk result (λ main. BeginsWith main (text_of own.now bytes.now) workspace.new.texts.known) }
     ensures no_fault { result ≢ Err Stop.ReadFault }
 {
+    first_law();
     match workspace.load(own, bytes) {
         Ok(main) => Ok(main),
         Err(LoadError::Full(over)) => Err(about_limit(alloc, over)),
@@ -125,7 +126,7 @@ fn show_main<S: Shelf>(
     ensures same { S.files shelf.new ≡ S.files shelf.old }
     ensures never_falls { S.faults shelf.old ≤ S.faults shelf.new }
 {
-    file_laws();
+    first_law();
     // Read here, so that the limit on entries is seen to be below 2^32.
     let _most = options.max_entries;
     let answer = ask(workspace, shelf, main, colour_of(options.main));

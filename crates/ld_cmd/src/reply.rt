@@ -2,7 +2,7 @@
 ghost use Rattle.std.specs.Prelude.{◌≡◌, ◌≢◌, ◌≤◌, ◌++◌, ◌<◌, ◌^◌, Err, IfOk, IfSome, codes, decimal, length};
 ghost use Rattle.ld_io.specs.Faults.{HasRisen};
 ghost use Rattle.ld_colour.specs.Table.{counting};
-ghost use Rattle.ld_cmd.specs.Playing.{Replied, colour_number, edit_step, query_reply, query_step, refusal_text, root_of, shown_by, replied_to};
+ghost use Rattle.ld_cmd.specs.Playing.{Replied, root_colour, edit_step, query_reply, query_step, refusal_text, root_of, shown_by, replied_to};
 ghost use Rattle.ld_cmd.specs.Querying.{answer_queried};
 ghost use Rattle.ld_cmd.specs.Replying.{Replies, edit_given, setting_shown};
 ghost use Rattle.ld_cmd.specs.Written.{shown_text};
@@ -43,7 +43,7 @@ pub(crate) fn reply<S: Shelf>(
     match command {
         Command::Edit(edit) => answer_edit(alloc, edit, workspace, shelf),
         Command::Ask(query, root) => {
-            let (file, colour) = (root_of(setting, root), colour_number(setting, root));
+            let (file, colour) = (root_of(setting, root), root_colour(setting, root));
             answer_query(
                 alloc,
                 shown(*query),
@@ -187,8 +187,8 @@ fn root_of<'a>(setting: &'a Setting, root: &'a Option<Root>) -> &'a FileId
     }
 }
 
-fn colour_number(setting: &Setting, root: &Option<Root>) -> u32
-    ensures { result ≡ colour_number (setting_shown setting.now) root.now }
+fn root_colour(setting: &Setting, root: &Option<Root>) -> u32
+    ensures { result ≡ root_colour (setting_shown setting.now) root.now }
 {
     match root {
         None => setting.colour,

@@ -6,7 +6,8 @@ ghost use Rattle.ld_cmd.specs.Ending.{exit_code};
 pub enum Status {
     /// The answer was written.
     Done,
-    /// The model has a fault, which was written.
+    /// The model has a fault, an edge colour of it has no value to inline, or something is found in
+    /// it; that was written.
     Faulted,
     /// The words are no command; the usage line was written.
     Usage,

@@ -1,10 +1,11 @@
 use Rattle.ld_words.specs.Shown.{options_shown}
-use Rattle.ld_cmd.specs.Output.{generated_output, listing_output, replay_output}
+use Rattle.ld_cmd.specs.Output.{form_output, generated_output, replay_output}
+use Rattle.ld_cmd.specs.Written.{form_of}
 use Rattle.ld_cmd.proofs.make.make_request.Goals as goal
 
 pub returns-in-Show-clause-told : goal.returns-in-Show-clause-told
 returns-in-Show-clause-told g c =
-    rw c.in-Show.is (c.written.ensures.told (g.S.Shelf.files c.args.shelf.now) (listing_output c.in-Show.what c.in-Show.file.now (options_shown c.args.request.now.options)) c.show_listing.ensures.told)
+    rw c.in-Show.is (c.written.ensures.told (g.S.Shelf.files c.args.shelf.now) (form_output (form_of c.in-Show.what) c.in-Show.file.now (options_shown c.args.request.now.options)) c.show_listing.ensures.told)
 
 pub returns-in-Replay-clause-told : goal.returns-in-Replay-clause-told
 returns-in-Replay-clause-told g c =
