@@ -11,7 +11,7 @@ ghost use Rattle.ld_engine.specs.Gathering.{Extends, Gathers, alone, enter_with}
 ghost use Rattle.ld_engine.specs.Inside.Meeting.{AreMets, met_outcomes};
 
 use crate::carrying::carry_from;
-use crate::met::{Met, NO_POINTS, Reference, meet};
+use crate::met::{Met, NO_POINTS, Reference, drawn, meet};
 use crate::reading::Reading;
 use crate::seen::is_part;
 use ld_bfc::{State, below_of};
@@ -214,8 +214,19 @@ pub(crate) fn expand_line(
 {
     let _: [Point; 0] = NO_POINTS;
     under_laws();
-    match meet(texts, state, source, line) {
-        None => Ok(None),
-        Some(met) => expand_met(alloc, texts, reading, way, left, most, met, entries),
+    match line {
+        // Most lines draw, and what they show is pushed as it is made.
+        Line::Draw {
+            kind,
+            colour,
+            points,
+        } => {
+            entries.push(drawn(state, source, kind, colour, points))?;
+            Ok(None)
+        }
+        other => match meet(texts, state, source, other) {
+            None => Ok(None),
+            Some(met) => expand_met(alloc, texts, reading, way, left, most, met, entries),
+        },
     }
 }

@@ -14,7 +14,7 @@ const TOO_FAR: u128 = 1_000_000_000_001_000_000;
 /// Each coordinate is computed exactly and then rounded once to millionths, ties away from zero.
 /// The answer is `None` exactly where a rounded coordinate's size is above 10^12 millionths.
 #[tactic(auto, unfolding(crate::specs::Placing::moved))]
-#[inline]
+#[inline(always)]
 pub fn place(by: &Placement, point: Point) -> Option<Point>
     ensures { result ≡ moved by.now point }
 {

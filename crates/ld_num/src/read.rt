@@ -43,8 +43,6 @@ pub fn split_dec(text: &[u8]) -> (Result<Dec, NumError>, &[u8])
     (read_numeral(field), rest)
 }
 
-// Kept apart from the loops that read most numerals, which are faster without it.
-#[inline(never)]
 #[tactic(auto, using(crate::proofs::Sizes::in_range_is), unfolding(crate::specs::Number::dec_of, crate::specs::Number::millionths_of))]
 fn read_numeral(text: &[u8]) -> Result<Dec, NumError>
     ensures { result ≡ dec_of text.now }
