@@ -14,15 +14,15 @@ use Rattle.ld_bfc.specs.declared.culling.State.{State}
 use Rattle.ld_colour.specs.declared.colour.Colour.{Colour}
 use Rattle.ld_entry.specs.Answers.{answer, answer_by, entries_before, first_fault, left_below, outcome_counts, root_outcomes, unless_too_many}
 use Rattle.ld_entry.specs.Carrying.{Outcome, carried_outcome, colour_above}
-use Rattle.ld_entry.specs.Laws.{ActionLaw}
+use Rattle.ld_entry.specs.Laws.{ActionLaw, CountLaw}
 use Rattle.ld_entry.specs.NumberedTexts.{NumberedTexts}
 use Rattle.ld_entry.specs.Outcomes.{Context, Enter, all_by_line, concatenation, context_of, line_outcomes, outcomes_from}
 use Rattle.ld_entry.specs.declared.entry.Entry.{Entry}
 use Rattle.ld_entry.specs.declared.entry.Fault.{Fault}
 use Rattle.ld_entry.specs.declared.entry.Source.{Source}
-use Rattle.ld_steps.specs.Laws.{AreSteps, FollowOn, GiveEntries, PartLaw, StepLaws}
+use Rattle.ld_steps.specs.Laws.{AreSteps, FollowOn, PartLaw, StepLaws}
 use Rattle.ld_steps.specs.Parts.{step_part, step_parts}
-use Rattle.ld_steps.specs.Steps.{shows, steps_of}
+use Rattle.ld_steps.specs.Steps.{steps_of}
 use Rattle.ld_steps.specs.declared.step.StepMark.{StepMark}
 use Rattle.ld_engine.specs.Gathering.{alone, enter_with}
 use Rattle.ld_engine.specs.Inside.Ends.{IsWithin, line_ends, part_by}
@@ -31,85 +31,22 @@ use Rattle.ld_engine.specs.Stepping.{steps_in, with_steps}
 use Rattle.ld_engine.specs.declared.asking.Answer.{Answer}
 use Rattle.ld_engine.proofs.Rooted.{by-line}
 
--- ---- How many entries each line gives.
+-- ---- The steps of an answer by its counts.
+
+answer-steps : CountLaw → PartLaw → (texts : NumberedTexts) (depth most : ℕ) (root : TextId) (colour : Colour) (given : Result (List Entry) Fault) (answered : Answer) → answer texts depth most root colour ≡ given → with_steps (steps_in texts depth root colour) given ≡ Ok answered → AreSteps (length answered.entries) answered.steps
+answer-steps count_law parts texts depth most root colour (Err fault) answered is same = cc
+answer-steps count_law parts texts depth most root colour (Ok entries) answered is same =
+    let lines = texts.lines root in
+    let counts = outcome_counts texts depth root colour in
+    let whole : record { entries = entries; steps = step_parts lines counts } ≡ answered = cc in
+    subst (λ (a : Answer). AreSteps (length a.entries) a.steps) whole (subst (λ n. AreSteps n (step_parts lines counts)) (count_law.whole texts depth most root colour entries is) (parts lines counts (count_law.lines texts depth most root colour entries is)))
+
+pub steps : CountLaw → PartLaw → StepsOfAnswers
+steps count_law parts texts depth most root colour answered is =
+    answer-steps count_law parts texts depth most root colour (answer texts depth most root colour) answered refl is
 
 sum-cons : (count : ℕ) (counts : List ℕ) → sum (count ∷ counts) ≡ count + sum counts
 sum-cons count counts = sum_by-cons (λ n. n) count counts
-
-sum-lengths : (lines : List (List Outcome)) → sum (map length lines) ≡ length (concatenation lines)
-sum-lengths [] = refl
-sum-lengths (line ∷ lines) =
-    sum-cons (length line) (map length lines) ∙ ap (λ n. length line + n) (sum-lengths lines) ∙ sym (length-append line (concatenation lines))
-
--- outcomes without a fault are entries
-fault-in : (xs ys : List Outcome) → first_fault (xs ++ ys) ≡ None → (first_fault xs ≡ None) × (first_fault ys ≡ None)
-fault-in [] ys none = (refl, none)
-fault-in (Err fault ∷ xs) ys none = cc
-fault-in (Ok entry ∷ xs) ys none = fault-in xs ys none
-
-all-entries : (xs : List Outcome) → first_fault xs ≡ None → length xs ≡ length (entries_before xs)
-all-entries [] none = refl
-all-entries (Err fault ∷ xs) none = cc
-all-entries (Ok entry ∷ xs) none = ap suc (all-entries xs none)
-
--- a line that shows nothing gives no entry
-none-shown : (enter : Enter) (context : Context) (state : State) (source : Source) (line : Line) → first_fault (line_outcomes enter context state source line) ≡ None → shows line ≡ false → length (line_outcomes enter context state source line) ≡ 0
-none-shown enter context state source line.Malformed none off = cc
-none-shown enter context state source line.OutOfRange none off = cc
-none-shown enter context state source (Draw kind word points) none off = cc
-none-shown enter context state source (Ref word placement name) none off = cc
-none-shown enter context state source Blank none off = refl
-none-shown enter context state source Comment none off = refl
-none-shown enter context state source (Org part) none off = refl
-none-shown enter context state source (Bfc word) none off = refl
-none-shown enter context state source Step none off = refl
-none-shown enter context state source (Rot word) none off = refl
-
-gives-entries : (enter : Enter) (context : Context) (state : State) (number : ℕ) (lines : List Line) → first_fault (concatenation (outcomes_from enter context state number lines)) ≡ None → GiveEntries lines (map length (outcomes_from enter context state number lines))
-gives-entries enter context state number [] none = tt
-gives-entries enter context state number (line ∷ lines) none =
-    let source : Source = record { text = context.text; line = number } in
-    let parts = fault-in (line_outcomes enter context state source line) (concatenation (outcomes_from enter context (next state line) (suc number) lines)) none in
-    (none-shown enter context state source line parts.0, gives-entries enter context (next state line) (suc number) lines parts.1)
-
-answered-by : (most : ℕ) (entries : List Entry) (end : Option Fault) (given : List Entry) → answer_by most entries end ≡ Ok given → (end ≡ None) × (entries ≡ given) × (slice_get entries most ≡ None)
-answered-by most entries end given is = by (slice_get entries most) end refl is
-  where
-    by : (many : Option Entry) (end : Option Fault) → slice_get entries most ≡ many → unless_too_many many entries end ≡ Ok given → (end ≡ None) × (entries ≡ given) × (slice_get entries most ≡ None)
-    by (Some entry) end at is = cc
-    by None (Some fault) at is = cc
-    by None None at is = let same : entries ≡ given = cc in (refl, same, at)
-
-module _ (texts : NumberedTexts) (depth most : ℕ) (root : TextId) (colour : Colour) where
-  abbrev lines : List (List Outcome)
-  lines = root_outcomes texts depth root colour
-
-  -- an answer is all outcomes, and none of them is a fault
-  answer-is : (entries : List Entry) → answer texts depth most root colour ≡ Ok entries → (first_fault (concatenation lines) ≡ None) × (length (concatenation lines) ≡ length entries)
-  unfolding answer
-  answer-is entries is =
-      let found = answered-by most (entries_before (concatenation lines)) (first_fault (concatenation lines)) entries is in
-      (found.0, all-entries (concatenation lines) found.0 ∙ ap length found.1)
-
-  gives-lines : first_fault (concatenation lines) ≡ None → GiveEntries (texts.lines root) (map length lines)
-  gives-lines none =
-      let context = context_of texts [] root (colour_above colour) in
-      let left = left_below depth [] in
-      let is : lines ≡ outcomes_from (enter_with left) context (start (texts.is_part root)) 1 (texts.lines root) = by-line left context in
-      subst (λ (ls : List (List Outcome)). GiveEntries (texts.lines root) (map length ls)) (sym is) (gives-entries (enter_with left) context (start (texts.is_part root)) 1 (texts.lines root) (sym (ap (λ ls. first_fault (concatenation ls)) is) ∙ none))
-
-  answer-steps : PartLaw → (given : Result (List Entry) Fault) (answered : Answer) → answer texts depth most root colour ≡ given → with_steps (steps_in texts depth root colour) given ≡ Ok answered → AreSteps (length answered.entries) answered.steps
-  unfolding outcome_counts
-  answer-steps parts (Err fault) answered is same = cc
-  answer-steps parts (Ok entries) answered is same =
-      let found = answer-is entries is in
-      let whole : record { entries = entries; steps = step_parts (texts.lines root) (map length lines) } ≡ answered = cc in
-      let size : sum (map length lines) ≡ length entries = sum-lengths lines ∙ found.1 in
-      subst (λ (a : Answer). AreSteps (length a.entries) a.steps) whole (subst (λ n. AreSteps n (step_parts (texts.lines root) (map length lines))) size (parts (texts.lines root) (map length lines) (gives-lines found.0)))
-
-pub steps : PartLaw → StepsOfAnswers
-steps parts texts depth most root colour answered is =
-    answer-steps texts depth most root colour parts (answer texts depth most root colour) answered refl is
 
 -- ---- Ranges by the ends of lines.
 
@@ -172,6 +109,14 @@ module _ (action : ActionLaw) (texts : NumberedTexts) (depth : ℕ) (root : Text
   stepped-within ends laws is =
       let size : length (texts.lines root) + 1 ≡ length ends = let all = ap length is in omega (arith, all, ends-count 0 (map length bare), bare-count) in
       subst (λ n. All (IsWithin n) (steps_of (texts.lines root))) size (within-ends (texts.lines root) 0 (steps_of (texts.lines root)) (omega arith) (laws.follow (texts.lines root)))
+
+answered-by : (most : ℕ) (entries : List Entry) (end : Option Fault) (given : List Entry) → answer_by most entries end ≡ Ok given → (end ≡ None) × (entries ≡ given) × (slice_get entries most ≡ None)
+answered-by most entries end given is = by (slice_get entries most) end refl is
+  where
+    by : (many : Option Entry) (end : Option Fault) → slice_get entries most ≡ many → unless_too_many many entries end ≡ Ok given → (end ≡ None) × (entries ≡ given) × (slice_get entries most ≡ None)
+    by (Some entry) end at is = cc
+    by None (Some fault) at is = cc
+    by None None at is = let same : entries ≡ given = cc in (refl, same, at)
 
 past-all : {A : Type 0} (xs : List A) (n : ℕ) → slice_get xs n ≡ None → length xs ≤ n
 past-all [] n none = omega arith

@@ -1,6 +1,6 @@
 ghost use Rattle.ld_engine.specs.Laws.{LearningStands, MainIsFirst, MainIsThere, StandsForRoots, StepsOfAnswers};
 
-use ld_entry::standing_law;
+use ld_entry::{count_law, standing_law};
 use ld_mpd::block_laws;
 use ld_names::{file_laws, learning_law, lookup_law};
 use ld_steps::part_law;
@@ -19,6 +19,7 @@ pub fn root_law()
 pub fn steps_law()
     ensures { StepsOfAnswers }
 {
+    count_law();
     part_law();
 }
 

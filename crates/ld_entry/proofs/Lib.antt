@@ -3,6 +3,7 @@ pub mod Agreement
 pub mod Action
 pub mod Lines
 pub mod Links
+pub mod Counts
 pub mod Cuts
 pub mod Ends
 pub mod Standing

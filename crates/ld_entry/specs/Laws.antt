@@ -1,14 +1,15 @@
 -- Laws of recursive expansion.
-use Rattle.std.specs.Prelude.{◌≡◌, ◌≤◌, ◌<◌, ◌+◌, ◌++◌, ◌⊎◌, ℕ, suc, Bool, true, All, List, [], ◌∷◌, map, length, take, slice_get, Option, Some, None, Ok, Err, IfOk}
+use Rattle.std.specs.Prelude.{◌≡◌, ◌≤◌, ◌<◌, ◌+◌, ◌++◌, ◌⊎◌, ℕ, suc, Bool, true, All, List, [], ◌∷◌, map, length, sum, take, slice_get, Option, Some, None, Ok, Err, IfOk}
 use Rattle.ld_names.specs.Standing.{Known, Map, Text}
 use Rattle.ld_names.specs.declared.file.FileId.{FileId}
 use Rattle.ld_names.specs.declared.file.TextId.{TextId}
+use Rattle.ld_line.specs.Shown.{GiveEntries}
 use Rattle.ld_line.specs.declared.line.Line.{Line}
 use Rattle.ld_bfc.specs.LineState.{state_before}
 use Rattle.ld_colour.specs.Colour.{is_lawful, under}
 use Rattle.ld_colour.specs.declared.colour.Colour.{Colour}
 use Rattle.ld_colour.specs.declared.colour.Colour.TheVariants.{Code}
-use Rattle.ld_entry.specs.Answers.{answer, answer_by, answer_of, until_end, entries_before, first_fault, left_below}
+use Rattle.ld_entry.specs.Answers.{answer, answer_by, answer_of, until_end, entries_before, first_fault, left_below, outcome_counts}
 use Rattle.ld_entry.specs.Carrying.{Above, above_of, beneath, carried_entry, carried_outcome, nothing_above, Outcome}
 use Rattle.ld_entry.specs.Expansion.{end_of, Expansion, expansion_of, first_entries, neutral_expansion}
 use Rattle.ld_entry.specs.Lawful.{IsLawfulEntry, IsLawfulOutcome}
@@ -112,6 +113,15 @@ pub record LineLaws : Type 0 where
   pub count : (enter : Enter) (context : Context) → length (outcomes_by_line enter context) ≡ length (context.texts.lines context.text)
   -- each is what its own line gives in the state of back face culling before that line
   pub line : (enter : Enter) (context : Context) (index : ℕ) (line : Line) → slice_get (context.texts.lines context.text) index ≡ Some line → slice_get (outcomes_by_line enter context) index ≡ Some (line_outcomes enter context (state_before (context.texts.is_part context.text) (context.texts.lines context.text) (index + 1)) (record { text = context.text; line = index + 1 }) line)
+
+-- ---- Answers.
+
+-- How many outcomes each line of a root gives, where they are answered:
+pub record CountLaw : Type 0 where
+  -- a line that shows nothing gives none
+  pub lines : (texts : NumberedTexts) (depth most : ℕ) (root : TextId) (colour : Colour) (entries : List Entry) → answer texts depth most root colour ≡ Ok entries → GiveEntries (texts.lines root) (outcome_counts texts depth root colour)
+  -- together they are the entries of the answer
+  pub whole : (texts : NumberedTexts) (depth most : ℕ) (root : TextId) (colour : Colour) (entries : List Entry) → answer texts depth most root colour ≡ Ok entries → sum (outcome_counts texts depth root colour) ≡ length entries
 
 -- ---- Known and standing texts.
 

@@ -1,4 +1,4 @@
-ghost use Rattle.ld_entry.specs.Laws.{ActionLaw, CarryLaws, CutLaws, EndsLaws, LawfulLaw, LineLaws, LinkLaw, StandingLaw, TintLaw};
+ghost use Rattle.ld_entry.specs.Laws.{ActionLaw, CarryLaws, CountLaw, CutLaws, EndsLaws, LawfulLaw, LineLaws, LinkLaw, StandingLaw, TintLaw};
 
 use ld_bfc::{state_laws, with_laws};
 use ld_colour::{lawful_colours, under_laws};
@@ -54,6 +54,12 @@ pub fn line_laws()
 {
     state_laws();
 }
+
+/// The lines that show nothing give no entry of an answer, and the counts of all lines are together
+/// the number of its entries.
+pub fn count_law()
+    ensures { CountLaw }
+{}
 
 /// Where nothing is wanted, the known texts give what the texts as they stand give.
 pub fn standing_law()

@@ -6,6 +6,7 @@ use Rattle.std.proofs.Math.Seq.{drop-length}
 use Rattle.std.proofs.lemmas.List.{drop-take, length-append, length-map, map-append, take-append-drop, take-take, take_all, take_at}
 use Rattle.std.proofs.lemmas.List.Elements.{filter_map-append}
 use Rattle.std.proofs.lemmas.List.Sums.{fold-append, sum_by-append, sum_by-cons}
+use Rattle.ld_line.specs.Shown.{shows}
 use Rattle.ld_line.specs.declared.line.Line.{Line}
 use Rattle.ld_line.specs.declared.line.Line.TheVariants.{Bfc, Draw}
 use Rattle.ld_line.specs.declared.line.BfcWord.TheVariants.{Certify}
@@ -17,7 +18,7 @@ use Rattle.ld_entry.specs.declared.entry.Entry.{Entry}
 use Rattle.ld_entry.specs.declared.entry.Entry.TheVariants.{Drawn, Part}
 use Rattle.ld_steps.specs.Laws.{AreNextViews, AreSteps, Cover}
 use Rattle.ld_steps.specs.Parts.{entries_in, step_part, step_parts}
-use Rattle.ld_steps.specs.Steps.{last_end, last_lines, last_number, shows, step_ends, step_lines, steps_between, steps_of}
+use Rattle.ld_steps.specs.Steps.{last_end, last_lines, last_number, step_ends, step_lines, steps_between, steps_of}
 use Rattle.ld_steps.specs.View.{view_behind, viewed}
 use Rattle.ld_steps.specs.declared.step.StepPart.{StepPart}
 use Rattle.ld_steps.specs.declared.step.Turn.{Turn}
@@ -36,7 +37,7 @@ concatenation-append (x ∷ xs) ys = ap (λ zs. x ++ zs) (concatenation-append x
 sum-append : (xs ys : List ℕ) → sum (xs ++ ys) ≡ sum xs + sum ys
 sum-append xs ys = sum_by-append (λ n. n) xs ys
 
-pub sum-lengths : {A : Type 0} (lines : List (List A)) → sum (map length lines) ≡ length (concatenation lines)
+sum-lengths : {A : Type 0} (lines : List (List A)) → sum (map length lines) ≡ length (concatenation lines)
 sum-lengths [] = refl
 sum-lengths (line ∷ lines) =
     sum_by-cons (λ n. n) (length line) (map length lines) ∙ ap (λ n. length line + n) (sum-lengths lines) ∙ sym (length-append line (concatenation lines))

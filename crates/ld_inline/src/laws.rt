@@ -1,6 +1,6 @@
 ghost use Rattle.ld_inline.specs.Laws.{AnswersInline};
 
-use ld_entry::lawful_law;
+use ld_entry::{count_law, lawful_law};
 use ld_steps::part_law;
 
 /// Every answer to a query of a lawful colour can be inlined, and its text means it: its entries are
@@ -9,6 +9,7 @@ use ld_steps::part_law;
 pub fn answers_law()
     ensures { AnswersInline }
 {
+    count_law();
     lawful_law();
     part_law();
 }

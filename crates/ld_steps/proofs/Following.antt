@@ -7,11 +7,12 @@ use Rattle.std.proofs.lemmas.List.{append-nil, length_push}
 use Rattle.std.proofs.lemmas.List.Elements.{All-cons, All-nil}
 use Rattle.std.proofs.lemmas.List.Sums.{fold-append}
 use Rattle.std.proofs.Math.Seq.{take-append_seam}
+use Rattle.ld_line.specs.Shown.{shows}
 use Rattle.ld_line.specs.declared.line.Line.{Line}
 use Rattle.ld_line.specs.declared.line.Line.TheVariants.{Rot, Step}
 use Rattle.ld_line.specs.declared.line.RotWord.TheVariants.{Abs, Rel, Add, End}
 use Rattle.ld_steps.specs.Laws.{AreNextViews, FollowOn, IsNextView, StepLaws}
-use Rattle.ld_steps.specs.Steps.{is_step_line, last_end, last_lines, last_number, shows, step_ends, step_lines, steps_between, steps_of}
+use Rattle.ld_steps.specs.Steps.{is_step_line, last_end, last_lines, last_number, step_ends, step_lines, steps_between, steps_of}
 use Rattle.ld_steps.specs.View.{one_more, view_behind, viewed}
 use Rattle.ld_steps.specs.declared.step.StepMark.{StepMark}
 use Rattle.ld_steps.specs.declared.step.Turn.{Turn}

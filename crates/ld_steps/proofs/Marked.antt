@@ -7,11 +7,12 @@ use Rattle.std.proofs.lemmas.List.{append-nil, drop-append-le, nil_from_length}
 use Rattle.std.proofs.lemmas.List.Folds.{list_any-append}
 use Rattle.std.proofs.lemmas.List.Sums.{fold-append}
 use Rattle.std.proofs.lemmas.Option.{slice_get_within}
+use Rattle.ld_line.specs.Shown.{shows}
 use Rattle.ld_line.specs.declared.line.Line.{Line}
 use Rattle.ld_line.specs.declared.line.Line.TheVariants.{Rot, Step}
 use Rattle.ld_line.specs.declared.line.RotWord.{RotWord}
 use Rattle.ld_steps.specs.Inside.Marking.{EndsStep, IsMarked, MarksLine}
-use Rattle.ld_steps.specs.Steps.{is_step_line, last_end, last_lines, last_number, shows, step_ends, step_lines, steps_between, steps_of}
+use Rattle.ld_steps.specs.Steps.{is_step_line, last_end, last_lines, last_number, step_ends, step_lines, steps_between, steps_of}
 use Rattle.ld_steps.specs.View.{view_behind, viewed}
 use Rattle.ld_steps.specs.declared.marking.Marking.{Marking}
 use Rattle.ld_steps.specs.declared.step.StepMark.{StepMark}

@@ -4,10 +4,11 @@ use Rattle.std.specs.Prelude.{sum}
 use Rattle.std.specs.List.{All, list_any}
 use Rattle.std.proofs.lemmas.List.Elements.{All-cons, All-nil}
 use Rattle.std.proofs.lemmas.List.Sums.{sum_by-cons}
+use Rattle.ld_line.specs.Shown.{GiveEntries, shows}
 use Rattle.ld_line.specs.declared.line.Line.{Line}
-use Rattle.ld_steps.specs.Laws.{AreNextViews, Cover, FollowOn, GiveEntries, PartLaw}
+use Rattle.ld_steps.specs.Laws.{AreNextViews, Cover, FollowOn, PartLaw}
 use Rattle.ld_steps.specs.Parts.{step_part, step_parts}
-use Rattle.ld_steps.specs.Steps.{shows, steps_of}
+use Rattle.ld_steps.specs.Steps.{steps_of}
 use Rattle.ld_steps.specs.declared.step.StepMark.{StepMark}
 use Rattle.ld_steps.specs.declared.step.StepPart.{StepPart}
 use Rattle.ld_steps.proofs.Following.{steps}

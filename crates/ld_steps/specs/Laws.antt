@@ -1,10 +1,11 @@
 -- Laws of the steps of a text, and of an answer.
 use Rattle.std.specs.Prelude.{◌≡◌, ◌≢◌, ◌≤◌, ◌⊎◌, ◌+◌, ℕ, false, All, List, [], ◌∷◌, length, drop, map, sum, ⊤}
 use Rattle.std.specs.List.{list_any}
+use Rattle.ld_line.specs.Shown.{GiveEntries, shows}
 use Rattle.ld_line.specs.declared.line.Line.{Line}
 use Rattle.ld_line.specs.declared.line.RotWord.{RotWord}
 use Rattle.ld_steps.specs.Parts.{step_parts}
-use Rattle.ld_steps.specs.Steps.{shows, steps_of}
+use Rattle.ld_steps.specs.Steps.{steps_of}
 use Rattle.ld_steps.specs.View.{rotated}
 use Rattle.ld_steps.specs.declared.step.StepMark.{StepMark}
 use Rattle.ld_steps.specs.declared.step.StepPart.{StepPart}
@@ -50,12 +51,6 @@ pub record AreSteps (entries : ℕ) (steps : List StepPart) : Type 0 where
   pub cover : Cover 0 entries steps
   pub within : All (λ step. (step.first ≤ step.end) × (step.end ≤ entries)) steps
   pub views : AreNextViews [] (map (λ step. step.view) steps)
-
--- a line that shows nothing gives no entry
-abbrev pub GiveEntries : List Line → List ℕ → Type 0
-GiveEntries [] [] = ⊤
-GiveEntries (line ∷ lines) (count ∷ counts) = (shows line ≡ false → count ≡ 0) × GiveEntries lines counts
-GiveEntries lines counts = ⊥
 
 abbrev pub PartLaw : Type 0
 PartLaw = (lines : List Line) (counts : List ℕ) → GiveEntries lines counts → AreSteps (sum counts) (step_parts lines counts)

@@ -2,8 +2,9 @@
 -- where it shows nothing is this project's own.
 use Rattle.std.specs.Prelude.{ℕ, ◌+◌, Bool, true, false, if◌then◌else◌, List, [], ◌∷◌, ◌++◌, length, drop}
 use Rattle.std.specs.List.{list_any}
+use Rattle.ld_line.specs.Shown.{shows}
 use Rattle.ld_line.specs.declared.line.Line.{Line}
-use Rattle.ld_line.specs.declared.line.Line.TheVariants.{Draw, Ref, Rot, Step}
+use Rattle.ld_line.specs.declared.line.Line.TheVariants.{Rot, Step}
 use Rattle.ld_steps.specs.View.{view_behind}
 use Rattle.ld_steps.specs.declared.step.StepMark.{StepMark}
 
@@ -12,12 +13,6 @@ abbrev pub is_step_line : Line → Bool
 is_step_line Step = true
 is_step_line (Rot word) = true
 is_step_line line = false
-
--- a line that refers to a file or draws
-abbrev pub shows : Line → Bool
-shows (Ref colour placement name) = true
-shows (Draw kind colour points) = true
-shows line = false
 
 -- the numbers of the step lines among lines that stand behind so many others
 abbrev pub step_lines : ℕ → List Line → List ℕ

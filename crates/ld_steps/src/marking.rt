@@ -1,5 +1,6 @@
 ghost use Rattle.std.specs.Prelude.{◌≡◌, ◌+◌, ◌≤◌, ◌<◌, ◌^◌, IfOk, OnOk, length};
-ghost use Rattle.ld_steps.specs.Steps.{shows, steps_of};
+ghost use Rattle.ld_line.specs.Shown.{shows};
+ghost use Rattle.ld_steps.specs.Steps.{steps_of};
 ghost use Rattle.ld_steps.specs.View.{rotated};
 ghost use Rattle.ld_steps.specs.Inside.Marking.{EndsStep, MarksLine, drops_last};
 

@@ -1,8 +1,9 @@
 -- Steps that are marked line by line.
 use Rattle.std.specs.Prelude.{◌≡◌, ◌+◌, ◌==◌, ◌&&◌, not, Bool, false, List, [], ◌∷◌, ◌++◌, length, take, drop, Some, slice_get}
 use Rattle.std.specs.List.{list_any}
+use Rattle.ld_line.specs.Shown.{shows}
 use Rattle.ld_line.specs.declared.line.Line.{Line}
-use Rattle.ld_steps.specs.Steps.{last_number, shows, step_lines, steps_between}
+use Rattle.ld_steps.specs.Steps.{last_number, step_lines, steps_between}
 use Rattle.ld_steps.specs.View.{view_behind}
 use Rattle.ld_steps.specs.declared.marking.Marking.{Marking}
 use Rattle.ld_steps.specs.declared.step.Turn.{Turn}
