@@ -1,12 +1,13 @@
 // Files of the system.
-ghost use Rattle.std.specs.Prelude.{◌≡◌, ◌<◌, ◌≤◌, ◌^◌, [], None, string_bytes};
-ghost use Rattle.ld_io.specs.OsShelf.{HasNoPath, stopped_by};
+ghost use Rattle.std.specs.Prelude.{◌≡◌, ◌<◌, ◌≤◌, ◌^◌, [], None, IfOk, string_bytes};
+ghost use Rattle.ld_io.specs.OsShelf.{HasNoPath, path_of, stopped_by};
 ghost use Rattle.ld_io.specs.Shelf.{FetchFits, faults_after_fetch};
 ghost use Rattle.ld_io.specs.Whole.{ReadFits};
 
 use crate::path::{path_end, path_in};
 use crate::shelf::{FetchError, Fetched, Place, Shelf};
 use crate::whole::{ReadError, read_whole};
+use std::alloc::AllocError;
 use std::fs;
 use std::fs::OpenFile;
 use std::io::ErrorKind;
@@ -72,22 +73,28 @@ impl<R> OsShelf<R> {
     }
 }
 
+impl<R: AllocGlobal> OsShelf<R> {
+    // The path of a name at a place.
+    fn path(&self, place: Place, name: &str) -> Result<String, AllocError>
+        ensures { IfOk result (λ path.
+            string_bytes path ≡ path_of self.now.library self.now.model place name.now) }
+    {
+        let (library, model) = (self.library.as_str(), self.model.as_str());
+        path_in(self.rt.alloc(), library, model, place, name)
+    }
+}
+
 // Reads a file of at most `max` bytes.
 fn read_file(rt: &impl Files, path: &str, max: u64, into: &mut Vec<u8>) -> Result<(), ReadError>
     requires empty { into.old.items ≡ [] }
     requires small { max < 2 ^ 32 }
     ensures { ReadFits max result into.new.items }
 {
-    let file = match fs::open(rt, path) {
-        Ok(file) => file,
-        Err(error) => return Err(ReadError::Failed(error.kind())),
-    };
+    let file = fs::open(rt, path)?;
     // One more than the size, so that the end is met without another growth.
     if let Ok(metadata) = file.metadata() {
         let size = metadata.len().saturating_add(1).min(max + 1);
-        if into.reserve_exact(size as usize).is_err() {
-            return Err(ReadError::Failed(ErrorKind::OutOfMemory));
-        }
+        into.reserve_exact(size as usize)?;
     }
     read_whole(file, max, into)
 }
@@ -115,9 +122,7 @@ impl<R: Files + AllocGlobal + Drop> Shelf for OsShelf<R> {
         let Some(end) = path_end(name) else {
             return Ok(Fetched::Absent);
         };
-        let alloc = self.rt.alloc();
-        let (library, model) = (self.library.as_str(), self.model.as_str());
-        let path = path_in(alloc, library, model, place, end)?;
+        let path = self.path(place, end)?;
         match read_file(&self.rt, path.as_str(), max, into) {
             Ok(()) => Ok(Fetched::Found),
             Err(ReadError::TooBig) => Err(FetchError::TooBig),

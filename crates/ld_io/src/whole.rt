@@ -1,9 +1,10 @@
 // Reading a whole reader, and writing a whole piece.
 ghost use Rattle.std.specs.Prelude.{◌≡◌, ◌<◌, ◌≤◌, ◌^◌, [], OnOk, MatchResult, IfSome, length, take, vec_len};
 ghost use Rattle.std.specs.Io.KnownBytes.{Appends, Keeps};
-ghost use Rattle.ld_io.specs.Whole.{ReadFits, ReadTold, WriteTold};
+ghost use Rattle.ld_io.specs.Whole.{ReadFits, ReadTold, WriteTold, taken_by};
 
 use crate::sink::PutError;
+use std::alloc::AllocError;
 use std::io;
 use std::io::{ErrorKind, Read, Write};
 
@@ -14,6 +15,30 @@ pub(crate) enum ReadError {
     TooBig,
     // A read failed.
     Failed(ErrorKind),
+}
+
+impl From<io::Error> for ReadError {
+    ghost use Rattle.std.specs.Prelude.{◌≡◌};
+    ghost use Rattle.std.specs.IoError.{error_kind};
+    ghost use Rattle.ld_io.specs.declared.whole.ReadError.TheVariants.{Failed};
+
+    ghost from_gives = { λ error e. e ≡ Failed (error_kind error) };
+
+    fn from(error: io::Error) -> ReadError {
+        ReadError::Failed(error.kind())
+    }
+}
+
+impl From<AllocError> for ReadError {
+    ghost use Rattle.std.specs.Prelude.{◌≡◌};
+    ghost use Rattle.std.specs.declared.io.ErrorKind.TheVariants.{OutOfMemory};
+    ghost use Rattle.ld_io.specs.declared.whole.ReadError.TheVariants.{Failed};
+
+    ghost from_gives = { λ _ e. e ≡ Failed OutOfMemory };
+
+    fn from(_error: AllocError) -> ReadError {
+        ReadError::Failed(ErrorKind::OutOfMemory)
+    }
 }
 
 // Reads what a reader has left, of at most `max` bytes, into the empty `into`; of more it reads one
@@ -28,9 +53,7 @@ pub(crate) fn read_whole<R: Read + Drop>(
     ensures fits { ReadFits max result into.new.items }
     ensures told { IfSome (R.remaining reader) (λ all. ReadTold all max result into.new.items) }
 {
-    if let Err(error) = read_first(reader, max + 1, into) {
-        return Err(ReadError::Failed(error.kind()));
-    }
+    read_first(reader, max + 1, into)?;
     if into.len() as u64 > max {
         return Err(ReadError::TooBig);
     }
@@ -70,16 +93,25 @@ pub(crate) fn write_whole<W: Write>(writer: &mut W, piece: &[u8]) -> Result<(), 
     Ok(())
 }
 
-// One write, and how many bytes it took: none where a signal came in between.
+// One write, and how many bytes it took.
 fn write_some<W: Write>(writer: &mut W, piece: &[u8]) -> Result<usize, PutError>
     ensures { MatchResult result
         (λ n. (n ≤ length piece.now) × Appends (W.contents writer.old) (W.contents writer.new) (take n piece.now))
         (λ _. Keeps (W.contents writer.old) (W.contents writer.new)) }
 {
-    match writer.write(piece) {
+    taken_by(writer.write(piece))
+}
+
+// None where a signal came in between; to take none otherwise is to fail.
+fn taken_by(written: io::Result<usize>) -> Result<usize, PutError>
+    ensures { result ≡ taken_by written }
+{
+    match written {
         Ok(0) => Err(PutError::Failed),
         Ok(count) => Ok(count),
-        Err(error) if error.kind() == ErrorKind::Interrupted => Ok(0),
-        Err(_) => Err(PutError::Failed),
+        Err(error) => match error.kind() {
+            ErrorKind::Interrupted => Ok(0),
+            _ => Err(PutError::Failed),
+        },
     }
 }
