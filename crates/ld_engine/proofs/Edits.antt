@@ -1,15 +1,13 @@
 -- Edits: which files they want, and what they leave.
-use Rattle.std.proofs.Common.{◌≡◌, ◌&&◌, ℕ, true, List, [], ◌∷◌, Option, Some, None, Result, Ok, Err, ap, refl, sym, subst, ◌∙◌, option_map, IsSome}
+use Rattle.std.proofs.Common.{◌≡◌, ℕ, List, [], ◌∷◌, Option, Some, None, Result, Ok, Err, ap, refl, sym, subst, ◌∙◌, option_map, IsSome}
 use Rattle.std.specs.Prelude.{IfSome, is_some}
-use Rattle.std.specs.List.{list_all}
 use Rattle.std.proofs.lemmas.List.{append-nil}
-use Rattle.ld_mpd.specs.Blocks.{are_inside}
 use Rattle.ld_io.specs.Shelf.{Files}
 use Rattle.ld_names.specs.Finding.{LearningStays}
-use Rattle.ld_names.specs.Standing.{Known, Map, Text, known_map, standing}
+use Rattle.ld_names.specs.Standing.{Known, Map, known_map, standing}
 use Rattle.ld_names.specs.declared.file.FileId.{FileId}
-use Rattle.ld_texts.specs.Editing.{AreKnown, edited, edited_map, files_in, is_block_text, refusal_of}
-use Rattle.ld_texts.specs.EditLaws.{EditLaws, KeepsBlockLines, are_of_block_lines, is_of_block_lines}
+use Rattle.ld_texts.specs.Editing.{AreKnown, edited_map, files_in, refusal_of}
+use Rattle.ld_texts.specs.EditLaws.{EditLaws}
 use Rattle.ld_texts.specs.Known.{id_of, lines_at}
 use Rattle.ld_texts.specs.Laws.{NumbersAgree}
 use Rattle.ld_texts.specs.Learning.{AppliesUnless}
@@ -19,7 +17,7 @@ use Rattle.ld_texts.specs.declared.edit.PrepareError.{PrepareError}
 use Rattle.ld_texts.specs.declared.edit.PrepareError.TheVariants.{Refused, Memory}
 use Rattle.ld_engine.specs.Editing.{EditStands, EditsKnown, EditsTold, EndsEdit, edit_learning, edit_refused, edit_stopped, first_unknown, unless_known, wanted_by}
 use Rattle.ld_engine.specs.Keeping.{StopsFor, ToldFor}
-use Rattle.ld_engine.specs.Learning.{Full as Passed, Learnt, LearnsBy, TooBig as BigFile, Wanting, are_clean, is_clean, learnt, stopped, text_on}
+use Rattle.ld_engine.specs.Learning.{Full as Passed, Learnt, LearnsBy, TooBig as BigFile, Wanting, learnt, stopped, text_on}
 use Rattle.ld_engine.specs.declared.editing.EditError.{EditError}
 use Rattle.ld_engine.specs.declared.editing.EditError.TheVariants as error
 use Rattle.ld_engine.specs.declared.learning.LearnStop.{LearnStop}
@@ -64,24 +62,6 @@ wants-new numbers edit known file is = numbers.map known file ∙ ap (option_map
 pub learns-nothing : (wants : Wanting) (old new : Known) → wants old ≡ None → LearnsBy wants old new → new ≡ old
 learns-nothing wants old new none ([], grown, are) = grown ∙ append-nil old
 learns-nothing wants old new none (entry ∷ entries, grown, are) = absurd (cc)
-
--- ---- lines that a block may hold
-
-lines-clean : (lines : List (List ℕ)) → are_inside lines ≡ list_all is_block_text lines
-lines-clean [] = refl
-lines-clean (line ∷ lines) = ap (λ b. is_block_text line && b) (lines-clean lines)
-
-text-clean : (text : Text) → is_clean text ≡ is_of_block_lines text
-text-clean None = refl
-text-clean (Some lines) = lines-clean lines
-
-known-clean : (known : Known) → are_clean known ≡ are_of_block_lines known
-known-clean [] = refl
-known-clean (entry ∷ known) = ap (λ b. b && are_clean known) (text-clean entry.1) ∙ ap (λ b. is_of_block_lines entry.1 && b) (known-clean known)
-
-pub edited-clean : KeepsBlockLines → (max_weight : ℕ) (known : Known) (edit : Edit) → refusal_of max_weight known edit ≡ None → are_clean known ≡ true → are_clean (edited known edit) ≡ true
-edited-clean keeps max_weight known edit fits clean =
-    known-clean (edited known edit) ∙ keeps max_weight known edit fits (sym (known-clean known) ∙ clean)
 
 -- ---- what an edit leaves
 

@@ -45,15 +45,6 @@ pub fault-gathered : (most : ℕ) (entries : List Entry) (end : Option Fault) (f
 fault-gathered most entries end fault outcomes ends is behind =
     ap (λ e. gathered most entries e behind) ends ∙ faulted most (map Ok entries) fault [] behind ∙ ap (λ os. until_end most (map Ok entries ++ (os ++ behind))) (sym is)
 
-pushed : (before : List Entry) (entry : Entry) (behind : List Outcome) → map Ok (before ++ entry ∷ []) ++ behind ≡ map Ok before ++ (Ok entry ∷ behind)
-pushed [] entry behind = refl
-pushed (first ∷ before) entry behind = ap (λ outcomes. Ok first ∷ outcomes) (pushed before entry behind)
-
--- an entry is given
-pub entry-gathered : (most : ℕ) (old new : List Entry) (entry : Entry) (outcomes : List Outcome) → new ≡ old ++ entry ∷ [] → outcomes ≡ Ok entry ∷ [] → Gathers most old new None outcomes
-entry-gathered most old new entry outcomes grown is behind =
-    ap (λ es. until_end most (map Ok es ++ behind)) grown ∙ ap (until_end most) (pushed old entry behind) ∙ ap (λ os. until_end most (map Ok old ++ (os ++ behind))) (sym is)
-
 -- one step after another
 pub then-gathered : (most : ℕ) (old mid new : List Entry) (end : Option Fault) (first second : List Outcome) → Gathers most old mid None first → Gathers most mid new end second → Gathers most old new end (first ++ second)
 then-gathered most old mid new end first second one two behind =
@@ -63,11 +54,6 @@ then-gathered most old mid new end first second one two behind =
 pub full-gathered : (most : ℕ) (old new : List Entry) (first second : List Outcome) → most < length new → Gathers most old new None first → Gathers most old new None (first ++ second)
 full-gathered most old new first second many one behind =
     full most new behind (second ++ behind) many ∙ one (second ++ behind) ∙ ap (λ os. until_end most (map Ok old ++ os)) (sym (append_assoc first second behind))
-
--- a fault ends what is given
-pub ended-gathered : (most : ℕ) (old new : List Entry) (fault : Fault) (first second : List Outcome) → Gathers most old new (Some fault) first → Gathers most old new (Some fault) (first ++ second)
-ended-gathered most old new fault first second one behind =
-    one (second ++ behind) ∙ ap (λ os. until_end most (map Ok old ++ os)) (sym (append_assoc first second behind))
 
 -- ---- What stands behind the entries of before.
 

@@ -111,10 +111,6 @@ pub left-at : (known : Known) (passed : Passed) (id : ℕ) → slice_get passed.
 left-at known passed id is =
     ap (λ o. elim o [ None ↦ Reaches passed.texts | Some id ↦ going_on (texts_reach (length known - suc passed.place) known (suc passed.place)) (file_rest id known passed) ]) is
 
-pub left-end : (known : Known) (passed : Passed) → slice_get passed.texts passed.place ≡ None → left known passed ≡ Reaches passed.texts
-left-end known passed is =
-    ap (λ o. elim o [ None ↦ Reaches passed.texts | Some id ↦ going_on (texts_reach (length known - suc passed.place) known (suc passed.place)) (file_rest id known passed) ]) is
-
 pub at-behind : (xs ys : List ℕ) (n x : ℕ) → slice_get xs n ≡ Some x → slice_get (xs ++ ys) n ≡ Some x
 at-behind [] ys n x is = cc
 at-behind (y ∷ xs) ys zero x is = is
@@ -155,7 +151,3 @@ module _ (known : Known) (begin old new : Passed) (id : ℕ) (at : slice_get old
         here known ∙ ap (going_on (texts_reach (length known - suc new.place) known (suc new.place))) goes.1,
         goes.2,
       )
-
--- no text is left
-pub left-done : (known : Known) (begin old : Passed) → slice_get old.texts old.place ≡ None → ((more : Known) → left (known ++ more) begin ≡ left (known ++ more) old) → Goes left known begin old None
-left-done known begin old none rest more = rest more ∙ left-end (known ++ more) old none

@@ -1,5 +1,6 @@
 -- How learning and expansion pass on what stopped them.
-use Rattle.std.specs.Prelude.{◌≡◌, Some, None, Result, Ok, Err, ⊤}
+use Rattle.std.specs.Prelude.{◌≡◌, Some, None, Result, Ok, Err}
+use Rattle.ld_names.specs.Finding.{IsThere}
 use Rattle.ld_names.specs.Standing.{Known, known_map}
 use Rattle.ld_names.specs.declared.file.FileId.{FileId}
 use Rattle.ld_colour.specs.declared.colour.Colour.{Colour}
@@ -22,7 +23,7 @@ abbrev pub answered_as : Result Answer LineFault → Result Answer AnswerError
 answered_as (Ok answer) = Ok answer
 answered_as (Err fault) = Err (Fault fault)
 
--- the answer for a root for which all is learnt
+-- the answer for a root for which all is learnt; memory is lacking only where the root is there
 abbrev pub AnswersKnown : Limits → FileId → Colour → Known → Result Answer AnswerError → Type 0
 AnswersKnown limits root colour known (Ok answer) = IsAnswered limits root colour known (Ok answer)
 AnswersKnown limits root colour known (Err (Fault fault)) = IsAnswered limits root colour known (Err fault)
@@ -30,4 +31,4 @@ AnswersKnown limits root colour known (Err NoRoot) = known_map known root ≡ So
 AnswersKnown limits root colour known (Err ReadFault) = ⊥
 AnswersKnown limits root colour known (Err (TooBig file)) = ⊥
 AnswersKnown limits root colour known (Err (Full over)) = ⊥
-AnswersKnown limits root colour known (Err Memory) = ⊤
+AnswersKnown limits root colour known (Err Memory) = IsThere (known_map known) root

@@ -119,6 +119,7 @@ impl Workspace {
         ensures learns { LearnsFile self.old.texts.known self.new.texts.known file result }
         ensures room { OnOk result (length self.old.texts.known < self.old.limits.texts) }
         ensures stops { IfErr result (λ stop. StopsAt self.old.limits self.old.texts.known file stop) }
+        ensures memory { result ≡ Err LearnStop.Memory → length self.old.texts.known < self.old.limits.texts }
         ensures told { IfSome (S.files shelf.old) (λ files. (wants : Wanting) → wants self.old.texts.known ≡ Some file →
             Tells self.old.limits files wants self.old.texts.known self.new.texts.known result) }
         ensures cause { result ≡ Err LearnStop.ReadFault → HasRisen (S.faults shelf.old) (S.faults shelf.new) }
