@@ -1,5 +1,5 @@
 -- Another text at the number of a known file: the files stay, the weight follows, and files are found as before.
-use Rattle.std.proofs.Common.{◌≡◌, ◌≢◌, ◌≤◌, ◌<◌, ◌+◌, ◌-◌, ℕ, zero, suc, Bool, true, false, cond, List, [], ◌∷◌, length, Option, Some, None, sym, ap, refl, ◌∙◌, subst, option_map, option_and_then, get_or, arith, position}
+use Rattle.std.proofs.Common.{◌≡◌, ◌≤◌, ◌<◌, ◌+◌, ◌-◌, ℕ, zero, suc, Bool, true, false, cond, List, [], ◌∷◌, length, Option, Some, None, sym, ap, refl, ◌∙◌, subst, option_map, option_and_then, get_or, arith, position}
 use Rattle.std.specs.List.{IsDistinct}
 use Rattle.std.specs.Map.{set_value}
 use Rattle.std.specs.Option.{option_map_or}
@@ -44,14 +44,6 @@ unfolding lines_at
 lines_at-with_text_at [] id text within = absurd (omega arith)
 lines_at-with_text_at (entry ∷ known) zero text within = refl
 lines_at-with_text_at (entry ∷ known) (suc id) text within = lines_at-with_text_at known id text (omega arith)
-
-pub lines_at-other : (known : Known) (id other : ℕ) (text : Text) → id ≢ other → lines_at (with_text_at known id text) other ≡ lines_at known other
-unfolding lines_at
-lines_at-other [] id other text apart = refl
-lines_at-other (entry ∷ known) zero zero text apart = absurd (apart refl)
-lines_at-other (entry ∷ known) zero (suc other) text apart = refl
-lines_at-other (entry ∷ known) (suc id) zero text apart = refl
-lines_at-other (entry ∷ known) (suc id) (suc other) text apart = lines_at-other known id other text (λ same. apart (ap suc same))
 
 -- an absent file stays so where another one goes
 pub lines_at-stays : (known : Known) (id other : ℕ) → lines_at known other ≡ None → lines_at (with_text_at known id None) other ≡ None

@@ -1,11 +1,11 @@
 -- Why an edit is refused, before its weight is looked at and after.
-use Rattle.std.proofs.Common.{◌≡◌, ◌≤◌, ◌<◌, ◌+◌, ◌-◌, ◌||◌, ◌==◌, ℕ, zero, suc, Bool, true, false, List, [], ◌∷◌, length, take, drop, Option, Some, None, sym, ap, refl, ◌∙◌, option_map, option_and_then, get_or, arith, tests, nat_lt, slice_set, inl, inr, take_all}
+use Rattle.std.proofs.Common.{◌≡◌, ◌≤◌, ◌<◌, ◌+◌, ◌-◌, ◌||◌, ◌==◌, ℕ, suc, Bool, true, false, List, [], length, take, drop, Option, Some, None, sym, ap, refl, ◌∙◌, option_map, option_and_then, get_or, arith, tests, nat_lt, slice_set, inl, inr, take_all}
 use Rattle.std.specs.List.{insert, remove}
 use Rattle.std.specs.Map.{set_value}
 use Rattle.std.specs.Option.{is_none, is_some, option_map_or, option_or}
 use Rattle.std.proofs.lemmas.Bool.{cases_lt}
 use Rattle.std.proofs.lemmas.List.{drop_all}
-use Rattle.std.proofs.lemmas.List.Sums.{get_or-le-sum_by, sum_by-append, sum_by-cons, sum_by-insert, sum_by-remove, sum_by-set}
+use Rattle.std.proofs.lemmas.List.Sums.{get_or-le-sum_by, sum_by-append, sum_by-insert, sum_by-remove, sum_by-set}
 use Rattle.ld_names.specs.declared.file.FileId.{FileId}
 use Rattle.ld_names.specs.Standing.{Known, Text, same_file}
 use Rattle.ld_texts.specs.Known.{id_of, lines_at, weight_of, weight_of_lines, weight_of_text}
@@ -50,12 +50,6 @@ heavy m n le = grind (arith, tests)
 refusal-light : (refusal : Option EditRefusal) (max_weight : ℕ) (known after : Known) → weight_of after ≤ max_weight → option_or refusal (overweight max_weight known after) ≡ refusal
 refusal-light (Some why) max_weight known after light = refl
 refusal-light None max_weight known after light = ap (λ b. refused_if b (Full (weight_of known))) (heavy max_weight (weight_of after) light)
-
--- a text comes, at most
-with_text_at-le : (known : Known) (id : ℕ) (text : Text) → weight_of (with_text_at known id text) ≤ weight_of known + weight_of_text text
-with_text_at-le [] id text = omega arith
-with_text_at-le (first ∷ known) zero text = omega (arith, sum_by-cons (λ e. weight_of_text e.1) first known, sum_by-cons (λ e. weight_of_text e.1) (first.0, text) known)
-with_text_at-le (first ∷ known) (suc id) text = omega (arith, sum_by-cons (λ e. weight_of_text e.1) first known, sum_by-cons (λ e. weight_of_text e.1) first (with_text_at known id text), with_text_at-le known id text)
 
 -- a file is known with a number, or not at all
 numbered_or : (P : Option ℕ → Type 0) → P None → ((id : ℕ) → P (Some id)) → (place : Option ℕ) → P place
