@@ -1,6 +1,6 @@
 -- Edits: which files they name, which texts they write, why they are refused, what they turn. All of it is this
 -- project's own; what begins and ends a block is of the MPD Language Extension.
-use Rattle.std.specs.Prelude.{◌+◌, ◌-◌, ◌==◌, ◌&&◌, ◌||◌, ℕ, Bool, true, false, not, List, [], ◌∷◌, length, slice_set, Option, Some, None, option_and_then, option_map, IsSome, unwrap_or, if◌then◌else◌, nat_lt, ⊤}
+use Rattle.std.specs.Prelude.{◌+◌, ◌-◌, ◌==◌, ◌&&◌, ◌||◌, ℕ, Bool, not, List, [], ◌∷◌, length, slice_set, Option, Some, None, option_and_then, option_map, IsSome, unwrap_or, if◌then◌else◌, nat_lt, ⊤}
 use Rattle.std.specs.List.{insert, remove, list_any}
 use Rattle.std.specs.Map.{set_value}
 use Rattle.std.specs.Option.{is_none, is_some, option_or}
