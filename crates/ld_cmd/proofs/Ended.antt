@@ -15,7 +15,7 @@ use Rattle.ld_script.specs.Script.{commands_of}
 use Rattle.ld_script.specs.declared.command.Command.{Command}
 use Rattle.ld_words.specs.Words.{Options, Task, Show, Replay, Generate}
 use Rattle.ld_cmd.specs.Generator.{generated}
-use Rattle.ld_cmd.specs.Laws.{AreReplied, EndsByFaults, HasAll, HasFault, HasModel, IsEndOf, IsFaulty, IsFaultyFor, IsLearntFor, IsLoaded, IsReplied, Names, main_answer, main_learnt}
+use Rattle.ld_cmd.specs.Laws.{AreReplied, EndsByFaults, HasAll, HasFault, HasModel, IsEndOf, IsFaulty, IsFaultyFor, IsAllLearnt, IsLoaded, IsReplied, Names, main_answer, main_learnt}
 use Rattle.ld_cmd.specs.Output.{answered_output, checked_output, file_bytes, form_output, found_output, input, inlined_output, model_output, output, own_name, replayed, shown_or_fault, task_output}
 use Rattle.ld_cmd.specs.Playing.{Replied, Reply, Ends, Setting, followed, played, replied_to}
 use Rattle.ld_cmd.specs.Written.{form_of}
@@ -62,7 +62,7 @@ played-done setting files known (command ∷ commands) are = by-step (replied_to
     by-step (Reply piece after) further more = further after more
     by-step (Ends line) further more = absurd more
 
-form-ends : (what : Option Form) (file : List ℕ) (options : Options) (files : Files) (model : HasModel file options files) → IsLearntFor what (main_learnt options files (own_name file) model.bytes model.loaded.known).stop → IsEndOf (IsFaultyFor what options files (own_name file) model.bytes model.loaded) (form_output what file options files).status
+form-ends : (what : Option Form) (file : List ℕ) (options : Options) (files : Files) (model : HasModel file options files) → IsAllLearnt what (main_learnt options files (own_name file) model.bytes model.loaded.known).stop → IsEndOf (IsFaultyFor what options files (own_name file) model.bytes model.loaded) (form_output what file options files).status
 form-ends (Some what) file options files model learnt = rw (input-there file files model.bytes model.named) (rw model.loaded.coloured (model-ends options files (own_name file) model.bytes model.loaded what learnt))
 form-ends None file options files model learnt = rw (input-there file files model.bytes model.named) (rw model.loaded.coloured (check-ends options files (own_name file) model.bytes model.loaded))
 

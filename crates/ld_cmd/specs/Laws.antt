@@ -59,9 +59,9 @@ abbrev pub main_learnt : Options → Files → List ℕ → List ℕ → Known �
 main_learnt options files own bytes known = learning (limits_of options) files (main_file own (text_blocks own bytes)) known
 
 -- all of it is learnt, where an answer is asked for
-abbrev pub IsLearntFor : Option Form → Option Stop → Type 0
-IsLearntFor (Some what) stop = stop ≡ None
-IsLearntFor None stop = ⊤
+abbrev pub IsAllLearnt : Option Form → Option Stop → Type 0
+IsAllLearnt (Some what) stop = stop ≡ None
+IsAllLearnt None stop = ⊤
 
 -- the command has a reply
 abbrev pub IsReplied : Replied → (Known → Type 0) → Type 0
@@ -82,7 +82,7 @@ pub record HasScript (script : List ℕ) (options : Options) (files : Files) (ow
 -- nothing that the task needs is missing, and no limit is reached
 abbrev pub HasAll : Task → Options → Files → Type 0
 HasAll (Show what file) options files =
-    (model : HasModel file options files) × IsLearntFor (form_of what) (main_learnt options files (own_name file) model.bytes model.loaded.known).stop
+    (model : HasModel file options files) × IsAllLearnt (form_of what) (main_learnt options files (own_name file) model.bytes model.loaded.known).stop
 HasAll (Replay file script) options files =
     (model : HasModel file options files) × HasScript script options files (own_name file) model.bytes model.loaded
 HasAll (Generate count) options files =

@@ -16,7 +16,7 @@ use Rattle.ld_line.specs.declared.line.Line.TheVariants as line
 use Rattle.ld_texts.specs.Known.{AreDistinct, file_at, id_of, lines_at}
 use Rattle.ld_texts.specs.Laws.{NumbersAgree}
 use Rattle.ld_texts.specs.Reach.{file_reaches, going_on, line_reaches, lines_in, lines_reach, reach, Reached, reached_by, Reaches, texts_reach, wanted_in, Wants, with_found, with_reached}
-use Rattle.ld_entry.specs.Learnt.{IsInside as IsInSet, IsLearnt, WantsNothing}
+use Rattle.ld_entry.specs.Learnt.{FindsInside, IsClosed, WantsNothing}
 use Rattle.ld_entry.specs.Laws.{StandingLaw}
 use Rattle.ld_entry.specs.Answers.{answer, left_below, outcome_counts, root_outcomes}
 use Rattle.ld_entry.specs.Carrying.{colour_above}
@@ -131,7 +131,7 @@ module _ (numbers : NumbersAgree) (known : Known) where
         record {
           grows = more.grows;
           are = more.are;
-          nothing = (λ folder unknown. (let no : Absent ≡ Unknown folder = sym found ∙ unknown in cc), subst (IsInSet (inside final)) (sym (finds-is name Absent found)) tt, more.nothing);
+          nothing = (λ folder unknown. (let no : Absent ≡ Unknown folder = sym found ∙ unknown in cc), subst (FindsInside (inside final)) (sym (finds-is name Absent found)) tt, more.nothing);
         }
     found-settles word placement name rest texts are further (Present other) found is = by (id_of known other) refl is
       where
@@ -142,7 +142,7 @@ module _ (numbers : NumbersAgree) (known : Known) where
             record {
               grows = more.grows;
               are = more.are;
-              nothing = (λ folder unknown. (let no : Present other ≡ Unknown folder = sym found ∙ unknown in cc), subst (IsInSet (inside final)) (sym nowhere) tt, more.nothing);
+              nothing = (λ folder unknown. (let no : Present other ≡ Unknown folder = sym found ∙ unknown in cc), subst (FindsInside (inside final)) (sym nowhere) tt, more.nothing);
             }
         by (Some id) some is =
             let more = further (with_reached texts id) (known-with texts other id are some) is in
@@ -150,7 +150,7 @@ module _ (numbers : NumbersAgree) (known : Known) where
             record {
               grows = append-grows texts (with_reached texts id) after (grows-with texts id) more.grows;
               are = more.are;
-              nothing = (λ folder unknown. (let no : Present other ≡ Unknown folder = sym found ∙ unknown in cc), subst (IsInSet (inside final)) (sym there) (among id (grown-among (with_reached texts id) after more.grows id (with-has texts id))), more.nothing);
+              nothing = (λ folder unknown. (let no : Present other ≡ Unknown folder = sym found ∙ unknown in cc), subst (FindsInside (inside final)) (sym there) (among id (grown-among (with_reached texts id) after more.grows id (with-has texts id))), more.nothing);
             }
 
     -- a line that refers to nothing
@@ -234,7 +234,7 @@ module _ (numbers : NumbersAgree) (known : Known) where
           by further (Some id) some is = on further id some (file_reaches known texts (file_at known id) (lines_at known id)) refl is
 
     -- all that a root reaches is learnt where nothing is wanted for it
-    root-settles : (root : FileId) (id : ℕ) (reached : Reached) → reach known root ≡ reached → id_of known root ≡ Some id → wanted_in reached ≡ None → (final : List ℕ) × (list_any (nat_eq id) final ≡ true) × IsLearnt (inside final) known
+    root-settles : (root : FileId) (id : ℕ) (reached : Reached) → reach known root ≡ reached → id_of known root ≡ Some id → wanted_in reached ≡ None → (final : List ℕ) × (list_any (nat_eq id) final ≡ true) × IsClosed (inside final) known
     unfolding reach
     root-settles root id (Wants file) is number none = absurd (cc)
     root-settles root id (Reaches final) is number none =

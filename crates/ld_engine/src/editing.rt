@@ -10,7 +10,7 @@ ghost use Rattle.ld_engine.specs.Learning.{LearnsBy, text_on};
 use crate::learning::LearnStop;
 use crate::workspace::Workspace;
 use ld_io::Shelf;
-use ld_names::{FileId, learning_law, lookup_law};
+use ld_names::{FileId, known_law, lookup_law};
 use ld_texts::{Edit, EditRefusal, Over, PrepareError, Texts, block_law, edit_law, number_law};
 use thiserror::Error;
 
@@ -101,7 +101,7 @@ impl Workspace {
     {
         number_law();
         lookup_law();
-        learning_law();
+        known_law();
         edit_law();
         match self.learn_named(shelf, edit) {
             Ok(()) => self.edit_known(edit),

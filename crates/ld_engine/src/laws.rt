@@ -2,7 +2,7 @@ ghost use Rattle.ld_engine.specs.Laws.{LearningStands, MainIsFirst, MainIsThere,
 
 use ld_entry::{count_law, standing_law};
 use ld_mpd::block_laws;
-use ld_names::{file_laws, learning_law, lookup_law};
+use ld_names::{file_laws, known_law, lookup_law};
 use ld_steps::part_law;
 use ld_texts::{edit_law, number_law};
 
@@ -30,7 +30,7 @@ pub fn learnt_law()
 {
     number_law();
     lookup_law();
-    learning_law();
+    known_law();
 }
 
 /// A file has a main model. Once the file is loaded it is there, and it stays there, whatever is
@@ -40,7 +40,7 @@ pub fn main_law()
 {
     block_laws();
     file_laws();
-    learning_law();
+    known_law();
 }
 
 /// The main model is the first of the known texts, with number 0, and stays so, whatever is learnt;

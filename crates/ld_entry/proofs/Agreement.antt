@@ -8,7 +8,7 @@ use Rattle.ld_line.specs.declared.line.Line.TheVariants.{Ref}
 use Rattle.ld_bfc.specs.LineState.{next, start}
 use Rattle.ld_bfc.specs.declared.culling.State.{State}
 use Rattle.ld_entry.specs.Carrying.{Above, above_of, beneath}
-use Rattle.ld_entry.specs.Learnt.{IsInside}
+use Rattle.ld_entry.specs.Learnt.{FindsInside}
 use Rattle.ld_entry.specs.NumberedTexts.{NumberedTexts}
 use Rattle.ld_entry.specs.Outcomes.{all_by_line, concatenation, context_below, context_of, Enter, file_outcomes, found_outcomes, line_outcomes, outcomes_by_line, outcomes_from, outer_of, part_outcomes}
 use Rattle.ld_entry.specs.declared.entry.Source.{Source}
@@ -17,7 +17,7 @@ use Rattle.ld_entry.specs.declared.entry.Source.{Source}
 abbrev pub FindsSame : (TextId → Bool) → NumberedTexts → NumberedTexts → TextId → List Line → Type 0
 FindsSame inside texts other text [] = ⊤
 FindsSame inside texts other text (Ref word placement (Some name) ∷ lines) =
-    (other.found text name ≡ texts.found text name) × IsInside inside (texts.found text name) × FindsSame inside texts other text lines
+    (other.found text name ≡ texts.found text name) × FindsInside inside (texts.found text name) × FindsSame inside texts other text lines
 FindsSame inside texts other text (line ∷ lines) = FindsSame inside texts other text lines
 
 pub record Agree (inside : TextId → Bool) (texts other : NumberedTexts) : Type 0 where
@@ -27,7 +27,7 @@ pub record Agree (inside : TextId → Bool) (texts other : NumberedTexts) : Type
 
 -- one text, where the files inside that it enters give the same
 module _ (inside : TextId → Bool) (texts other : NumberedTexts) (way : List TextId) (text : TextId) (above : Above) (enter enter' : Enter) (agree : (state : State) (source : Source) (word : ℕ) (placement : Placement) (file : TextId) → inside file ≡ true → file_outcomes enter' (context_of other way text above) state source word placement file ≡ file_outcomes enter (context_of texts way text above) state source word placement file) where
-  found_outcomes-agree : (state : State) (source : Source) (word : ℕ) (placement : Placement) (found : Option TextId) → IsInside inside found → found_outcomes enter' (context_of other way text above) state source word placement found ≡ found_outcomes enter (context_of texts way text above) state source word placement found
+  found_outcomes-agree : (state : State) (source : Source) (word : ℕ) (placement : Placement) (found : Option TextId) → FindsInside inside found → found_outcomes enter' (context_of other way text above) state source word placement found ≡ found_outcomes enter (context_of texts way text above) state source word placement found
   found_outcomes-agree state source word placement None within = refl
   found_outcomes-agree state source word placement (Some file) within = rw (agree state source word placement file within) refl
 

@@ -13,7 +13,7 @@ use Rattle.ld_entry.specs.Answers.{answer, answer_of, left_below}
 use Rattle.ld_entry.specs.Carrying.{Above, colour_above, nothing_above}
 use Rattle.ld_entry.specs.Expansion.{expansion_of, neutral_expansion}
 use Rattle.ld_entry.specs.Laws.{StandingLaw}
-use Rattle.ld_entry.specs.Learnt.{IsLearnt, WantsNothing}
+use Rattle.ld_entry.specs.Learnt.{IsClosed, WantsNothing}
 use Rattle.ld_entry.specs.NumberedTexts.{file_is_part, found_from, is_part_in, known_files, known_texts, standing_lines, lines_of_file, text_id_of, standing_texts}
 use Rattle.ld_entry.specs.Outcomes.{all_by_line, concatenation, context_of}
 
@@ -46,7 +46,7 @@ module _ (stays : FindStays) (equality : IsFileEquality) where
       (same, nothing.1, finds-same inside known shelf text file at lines nothing.2)
   finds-same inside known shelf text file at (line ∷ lines) nothing = finds-same inside known shelf text file at lines nothing
 
-  agree : (inside : TextId → Bool) (known : Known) (shelf : FileId → Text) → IsLearnt inside known → Agree inside (known_texts known) (standing_texts known shelf)
+  agree : (inside : TextId → Bool) (known : Known) (shelf : FileId → Text) → IsClosed inside known → Agree inside (known_texts known) (standing_texts known shelf)
   agree inside known shelf learnt = record { lines = λ text within. by_map (λ m. lines_of_file m) (λ m. λ m'. λ file same. ap (λ t. map line_of (standing_lines t)) same) text within; is_part = λ text within. by_map (λ m. file_is_part m) (λ m. λ m'. λ file same. ap (λ t. is_part_in file.folder t) same) text within; finds = λ text within. let at = learnt text within in finds-same inside known shelf text at.0 at.1 ((known_texts known).lines text) at.2 }
     where
       by_map : {A : Type 0} (of : Map → Option FileId → A) → ((m m' : Map) (file : FileId) → m file ≡ m' file → of m (Some file) ≡ of m' (Some file)) → (text : TextId) → inside text ≡ true → of (standing (known_map known) shelf) (slice_get (known_files known) text.0) ≡ of (known_map known) (slice_get (known_files known) text.0)
@@ -55,7 +55,7 @@ module _ (stays : FindStays) (equality : IsFileEquality) where
           let there = known_at known text.0 at.0 at.1 in
           ap (of (standing (known_map known) shelf)) at.1 ∙ alike (standing (known_map known) shelf) (known_map known) at.0 (standing-known (known_map known) shelf at.0 there.0 there.1 ∙ sym there.1) ∙ sym (ap (of (known_map known)) at.1)
 
-  lines-same : (inside : TextId → Bool) (known : Known) (shelf : FileId → Text) → IsLearnt inside known → (left : ℕ) (way : List TextId) (text : TextId) (above : Above) → inside text ≡ true → all_by_line left (context_of (standing_texts known shelf) way text above) ≡ all_by_line left (context_of (known_texts known) way text above)
+  lines-same : (inside : TextId → Bool) (known : Known) (shelf : FileId → Text) → IsClosed inside known → (left : ℕ) (way : List TextId) (text : TextId) (above : Above) → inside text ≡ true → all_by_line left (context_of (standing_texts known shelf) way text above) ≡ all_by_line left (context_of (known_texts known) way text above)
   lines-same inside known shelf learnt = all-agree inside (known_texts known) (standing_texts known shelf) (agree inside known shelf learnt)
 
   pub stands : StandingLaw

@@ -13,7 +13,7 @@ use Rattle.ld_entry.specs.Answers.{answer, answer_by, answer_of, until_end, entr
 use Rattle.ld_entry.specs.Carrying.{Above, above_of, beneath, carried_entry, carried_outcome, nothing_above, Outcome}
 use Rattle.ld_entry.specs.Expansion.{end_of, Expansion, expansion_of, first_entries, neutral_expansion}
 use Rattle.ld_entry.specs.Lawful.{IsLawfulEntry, IsLawfulOutcome}
-use Rattle.ld_entry.specs.Learnt.{IsLearnt}
+use Rattle.ld_entry.specs.Learnt.{IsClosed}
 use Rattle.ld_entry.specs.NumberedTexts.{known_texts, NumberedTexts, standing_texts, texts_over}
 use Rattle.ld_entry.specs.Outcomes.{all, all_by_line, concatenation, Context, context_of, Enter, line_outcomes, outcomes_by_line}
 use Rattle.ld_entry.specs.declared.entry.Entry.{Entry}
@@ -127,9 +127,9 @@ pub record CountLaw : Type 0 where
 
 -- Where nothing is wanted, the known texts give what the texts as they stand give, whatever the shelf has.
 pub record StandingLaw : Type 0 where
-  pub outcomes : (inside : TextId → Bool) (known : Known) (shelf : FileId → Text) → IsLearnt inside known → (left : ℕ) (way : List TextId) (text : TextId) (above : Above) → inside text ≡ true → all_by_line left (context_of (standing_texts known shelf) way text above) ≡ all_by_line left (context_of (known_texts known) way text above)
-  pub answers : (inside : TextId → Bool) (known : Known) (shelf : FileId → Text) → IsLearnt inside known → (depth most : ℕ) (root : TextId) (colour : Colour) → inside root ≡ true → answer (standing_texts known shelf) depth most root colour ≡ answer (known_texts known) depth most root colour
-  pub expansions : (inside : TextId → Bool) (known : Known) (shelf : FileId → Text) → IsLearnt inside known → (depth most : ℕ) (way : List TextId) (text : TextId) → inside text ≡ true → neutral_expansion (standing_texts known shelf) depth most way text ≡ neutral_expansion (known_texts known) depth most way text
+  pub outcomes : (inside : TextId → Bool) (known : Known) (shelf : FileId → Text) → IsClosed inside known → (left : ℕ) (way : List TextId) (text : TextId) (above : Above) → inside text ≡ true → all_by_line left (context_of (standing_texts known shelf) way text above) ≡ all_by_line left (context_of (known_texts known) way text above)
+  pub answers : (inside : TextId → Bool) (known : Known) (shelf : FileId → Text) → IsClosed inside known → (depth most : ℕ) (root : TextId) (colour : Colour) → inside root ≡ true → answer (standing_texts known shelf) depth most root colour ≡ answer (known_texts known) depth most root colour
+  pub expansions : (inside : TextId → Bool) (known : Known) (shelf : FileId → Text) → IsClosed inside known → (depth most : ℕ) (way : List TextId) (text : TextId) → inside text ≡ true → neutral_expansion (standing_texts known shelf) depth most way text ≡ neutral_expansion (known_texts known) depth most way text
 
 -- ---- Lawful entries.
 

@@ -9,18 +9,18 @@ use Rattle.ld_line.specs.declared.line.Line.TheVariants.{Ref}
 use Rattle.ld_entry.specs.NumberedTexts.{known_files, known_texts}
 
 -- what is found, if anything, is in the set
-abbrev pub IsInside : (TextId → Bool) → Option TextId → Type 0
-IsInside inside None = ⊤
-IsInside inside (Some text) = inside text ≡ true
+abbrev pub FindsInside : (TextId → Bool) → Option TextId → Type 0
+FindsInside inside None = ⊤
+FindsInside inside (Some text) = inside text ≡ true
 
 -- No reference among the lines of a text leaves the set, and none comes to a folder of which its name is not known.
 abbrev pub WantsNothing : (TextId → Bool) → Known → TextId → FileId → List Line → Type 0
 WantsNothing inside known text file [] = ⊤
 WantsNothing inside known text file (Ref word placement (Some name) ∷ lines) =
-    ((folder : Folder) → find (known_map known) file.folder name ≢ Unknown folder) × IsInside inside ((known_texts known).found text name) × WantsNothing inside known text file lines
+    ((folder : Folder) → find (known_map known) file.folder name ≢ Unknown folder) × FindsInside inside ((known_texts known).found text name) × WantsNothing inside known text file lines
 WantsNothing inside known text file (line ∷ lines) = WantsNothing inside known text file lines
 
 -- a set of known texts that no reference leaves, and in which nothing is wanted
-abbrev pub IsLearnt : (TextId → Bool) → Known → Type 0
-IsLearnt inside known =
+abbrev pub IsClosed : (TextId → Bool) → Known → Type 0
+IsClosed inside known =
     (text : TextId) → inside text ≡ true → (file : FileId) × (slice_get (known_files known) text.0 ≡ Some file) × WantsNothing inside known text file ((known_texts known).lines text)

@@ -23,7 +23,7 @@ pub fn lookup_law()
 
 /// Learning a file adds what is known of it, keeps what was known, and leaves the texts as they
 /// stand.
-pub fn learning_law()
+pub fn known_law()
     ensures adds { LearningAdds }
     ensures keeps { LearningKeeps }
     ensures stays { LearningStays }

@@ -11,7 +11,7 @@ use Rattle.ld_names.specs.declared.file.FileId.{FileId}
 use Rattle.ld_names.specs.Finding.{IsFileEquality}
 use Rattle.ld_names.specs.Standing.{Known, Map, Text, known_map, same_file, standing}
 use Rattle.ld_texts.specs.Editing.{AreKnown, edit_change, edited, edited_map, files_in, is_block_text, map_with_texts, misfit, move_change, misses, names, refusal_of, refused_if, text_in, text_of, turned, with_texts, written_by}
-use Rattle.ld_texts.specs.EditLaws.{EditLaws, EditsMaps, Keeps, Weighs, grows}
+use Rattle.ld_texts.specs.EditLaws.{EditLaws, EditsMaps, LeavesOthers, Weighs, grows}
 use Rattle.ld_texts.specs.Known.{file_at, files_of, id_of, is_part_at, lines_at, weight_of}
 use Rattle.ld_texts.specs.Learning.{Apply, Learn, Ready, change_of, edit_in, known_after}
 use Rattle.ld_texts.specs.declared.change.Change.{Change}
@@ -135,7 +135,7 @@ module _ (equality : IsFileEquality) where
       let there = (numbers_agree equality).file known other id is in
       part-by known (edited known edit) id other (lines_at known id) there (file-is known edit id ∙ there) refl (lines-is known edit other id apart is)
 
-  keeps : (known : Known) (edit : Edit) → Keeps known edit
+  keeps : (known : Known) (edit : Edit) → LeavesOthers known edit
   keeps known edit = record {
     files = files-stay known (written_by edit (text_of known));
     count = sym (length-map (edited known edit) (λ entry. entry.0)) ∙ ap length (files-stay known (written_by edit (text_of known))) ∙ length-map known (λ entry. entry.0);

@@ -10,7 +10,7 @@ use Rattle.ld_texts.specs.declared.edit.Edit.{Edit}
 use Rattle.ld_texts.specs.declared.edit.Edit.TheVariants.{Set, Insert}
 
 -- every file keeps its number, and the files that the edit does not name keep their texts
-pub record Keeps (known : Known) (edit : Edit) : Type 0 where
+pub record LeavesOthers (known : Known) (edit : Edit) : Type 0 where
   pub files : files_of (edited known edit) ≡ files_of known
   pub count : length (edited known edit) ≡ length known
   pub distinct : AreDistinct known → AreDistinct (edited known edit)
@@ -40,7 +40,7 @@ pub record Weighs (known : Known) : Type 0 where
   pub light : (max_weight : ℕ) (edit : Edit) → weight_of known ≤ max_weight → grows edit ≡ false → refusal_of max_weight known edit ≡ misfit (text_of known) edit
 
 abbrev pub EditLaws : Type 0
-EditLaws = (known : Known) (edit : Edit) → Keeps known edit × EditsMaps known edit × Weighs known
+EditLaws = (known : Known) (edit : Edit) → LeavesOthers known edit × EditsMaps known edit × Weighs known
 
 -- a text whose lines a block may hold
 abbrev pub is_of_block_lines : Text → Bool

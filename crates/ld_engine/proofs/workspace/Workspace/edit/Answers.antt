@@ -34,7 +34,7 @@ returns-in-Ok-clause-stands g c =
     let known = c.learn_named.new.self.texts.known in
     let new = c.edit_known.new.self.texts.known in
     let edits = subst (λ (l : Limits). EditsKnown l c.args.edit.now known new c.edit_known.result) c.in-Ok.ensures.limits c.edit_known.ensures.edits in
-    stands-known c.args.self.now.limits c.args.edit.now c.number_law.ensures c.learning_law.ensures.stays c.edit_law.ensures c.args.self.now.texts.known known new (g.S.Shelf.files c.args.shelf.now) c.edit_known.result c.in-Ok.ensures.learnt edits c.in-Ok.ensures.told
+    stands-known c.args.self.now.limits c.args.edit.now c.number_law.ensures c.known_law.ensures.stays c.edit_law.ensures c.args.self.now.texts.known known new (g.S.Shelf.files c.args.shelf.now) c.edit_known.result c.in-Ok.ensures.learnt edits c.in-Ok.ensures.told
 
 pub returns-in-Err-clause-edits : goal.returns-in-Err-clause-edits
 returns-in-Err-clause-edits g c =
@@ -59,4 +59,4 @@ pub returns-in-Err-clause-stands : goal.returns-in-Err-clause-stands
 returns-in-Err-clause-stands g c =
     let old = c.args.self.now.texts.known in
     let known = c.learn_named.new.self.texts.known in
-    subst (λ e. IfSome (g.S.Shelf.files c.args.shelf.now) (λ files. EditStands (text_on files) c.args.edit.now old known (Err e))) (sym c.stopped_by.ensures) (stands-stopped c.args.self.now.limits c.args.edit.now c.number_law.ensures c.learning_law.ensures.stays c.edit_law.ensures old known (g.S.Shelf.files c.args.shelf.now) c.in-Err.stop c.in-Err.ensures.told)
+    subst (λ e. IfSome (g.S.Shelf.files c.args.shelf.now) (λ files. EditStands (text_on files) c.args.edit.now old known (Err e))) (sym c.stopped_by.ensures) (stands-stopped c.args.self.now.limits c.args.edit.now c.number_law.ensures c.known_law.ensures.stays c.edit_law.ensures old known (g.S.Shelf.files c.args.shelf.now) c.in-Err.stop c.in-Err.ensures.told)
