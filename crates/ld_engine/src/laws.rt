@@ -4,7 +4,7 @@ use ld_entry::{count_law, standing_law};
 use ld_mpd::block_laws;
 use ld_names::{file_laws, known_law, lookup_law};
 use ld_steps::part_law;
-use ld_texts::{edit_law, number_law};
+use ld_texts::{edit_law, learning_law, number_law};
 
 /// Where nothing is wanted for a root, the known texts answer it as the texts as they stand do.
 pub fn root_law()
@@ -50,6 +50,6 @@ pub fn first_law()
 {
     block_laws();
     file_laws();
-    ld_texts::learning_law();
+    learning_law();
     edit_law();
 }
