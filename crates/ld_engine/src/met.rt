@@ -36,7 +36,13 @@ pub(crate) enum Met {
     Fails(Fault),
 }
 
-pub(crate) fn drawn(state: State, source: Source, kind: Kind, colour: u32, points: [Point; 4]) -> Entry
+pub(crate) fn drawn(
+    state: State,
+    source: Source,
+    kind: Kind,
+    colour: u32,
+    points: [Point; 4],
+) -> Entry
     ensures { result ≡ own_entry state source kind colour points }
 {
     let (certified, clip, winding) = face(state);
