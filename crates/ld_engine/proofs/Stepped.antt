@@ -1,25 +1,22 @@
 -- The steps of an answer.
-use Rattle.std.proofs.Common.{◌≡◌, ◌≤◌, ◌+◌, ◌-◌, ℕ, zero, suc, false, List, [], ◌∷◌, ◌++◌, length, map, take, get_or, Option, Some, None, Result, Ok, Err, refl, ap, sym, ◌∙◌, subst, arith}
+use Rattle.std.proofs.Common.{◌≡◌, ◌≤◌, ◌+◌, ◌-◌, ℕ, zero, suc, List, [], ◌∷◌, length, map, take, get_or, Option, Some, None, Result, Ok, Err, refl, ap, sym, ◌∙◌, subst, arith}
 use Rattle.std.specs.Prelude.{slice_get, sum}
 use Rattle.std.specs.List.{All}
-use Rattle.std.proofs.lemmas.List.{length-append, length-map}
+use Rattle.std.proofs.lemmas.List.{length-map}
 use Rattle.std.proofs.lemmas.List.Elements.{All-cons, All-nil}
 use Rattle.std.proofs.lemmas.List.Sums.{sum_by-cons}
 use Rattle.ld_names.specs.declared.file.TextId.{TextId}
 use Rattle.ld_line.specs.declared.line.Line.{Line}
-use Rattle.ld_line.specs.declared.line.Line.TheVariants.{Blank, Comment, Org, Bfc, Step, Rot, Ref, Draw}
-use Rattle.ld_line.specs.declared.line.Line.TheVariants as line
 use Rattle.ld_bfc.specs.LineState.{next, start}
 use Rattle.ld_bfc.specs.declared.culling.State.{State}
 use Rattle.ld_colour.specs.declared.colour.Colour.{Colour}
-use Rattle.ld_entry.specs.Answers.{answer, answer_by, entries_before, first_fault, left_below, outcome_counts, root_outcomes, unless_too_many}
+use Rattle.ld_entry.specs.Answers.{answer, answer_by, left_below, outcome_counts, root_outcomes, unless_too_many}
 use Rattle.ld_entry.specs.Carrying.{Outcome, carried_outcome, colour_above}
 use Rattle.ld_entry.specs.Laws.{ActionLaw, CountLaw}
 use Rattle.ld_entry.specs.NumberedTexts.{NumberedTexts}
-use Rattle.ld_entry.specs.Outcomes.{Context, Enter, all_by_line, concatenation, context_of, line_outcomes, outcomes_from}
+use Rattle.ld_entry.specs.Outcomes.{Context, Enter, all_by_line, outcomes_from}
 use Rattle.ld_entry.specs.declared.entry.Entry.{Entry}
 use Rattle.ld_entry.specs.declared.entry.Fault.{Fault}
-use Rattle.ld_entry.specs.declared.entry.Source.{Source}
 use Rattle.ld_steps.specs.Laws.{AreSteps, FollowOn, PartLaw, StepLaws}
 use Rattle.ld_steps.specs.Parts.{step_part, step_parts}
 use Rattle.ld_steps.specs.Steps.{steps_of}
