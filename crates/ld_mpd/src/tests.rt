@@ -27,6 +27,10 @@ a~0 FILE x~b => text x|b;\n\
 0 FILE x~~0 FILEx~0 // FILE y~1 FILE => text x||0 FILEx|0 // FILE y|1 FILE;\n\
 0 FILE a~0 NOFILE~b~0 FILE a~c~0 FILE b~d => text a;text b|d;\n\
 0 FILE a\u{1}b~1~0 FILE own.ldr~2 => text own.ldr|1;\n\
+0 FILE nnnnnnnnnnnnnnnnnnnnnnnnnnnnnnnnnnnnnnnnnnnnnnnnnnnnnnnnnnnnnnnn\
+nnnnnnnnnnnnnnnnnnnnnnnnnnnnnnnnnnnnnnnnnnnnnnnnnnnnnnnnnnnnnnnn\
+nnnnnnnnnnnnnnnnnnnnnnnnnnnnnnnnnnnnnnnnnnnnnnnnnnnnnnnnnnnnnnnn\
+nnnnnnnnnnnnnnnnnnnnnnnnnnnnnnnnnnnnnnnnnnnnnnnnnnnnnnnnnnnnnnnn~a => text own.ldr|a;\n\
 0 FILE a~0 NOFILE x~0 NOFILE~1~0 FILE b~ => text a;text b;";
 
 // Texts of files, each line behind a bar.
