@@ -42,6 +42,11 @@ del|model|m.ldr|x => Bad 1\n\
 del|model|m.ldr => Bad 1\n\
 new|model|a b.ldr => New Model a b.ldr\n\
 new|model|a.ldr| => Bad 1\n\
+new|model|nnnnnnnnnnnnnnnnnnnnnnnnnnnnnnnnnnnnnnnnnnnnnnnnnnnnnnnnnnnnnnnn\
+nnnnnnnnnnnnnnnnnnnnnnnnnnnnnnnnnnnnnnnnnnnnnnnnnnnnnnnnnnnnnnnn\
+nnnnnnnnnnnnnnnnnnnnnnnnnnnnnnnnnnnnnnnnnnnnnnnnnnnnnnnnnnnnnnnn\
+nnnnnnnnnnnnnnnnnnnnnnnnnnnnnnnnnnnnnnnnnnnnnnnnnnnnnnnnnnnnnnnn => Bad 1\n\
+new|model|a\u{1}b => Bad 1\n\
 new|model => Bad 1\n\
 new => Bad 1\n\
 drop|p|A.DAT => Drop P a.dat\n\
@@ -176,7 +181,7 @@ fn scripts(rt: HostRuntime) -> Result<(), Fail> {
     for row in SCRIPTS.lines() {
         let (script, wanted) = row.split_once(" => ").ok_or("a row without =>")?;
         let bytes: Vec<u8> = script.bytes().map(script_byte).collect(alloc)?;
-        assert!(rt; bytes.len() < 100);
+        assert!(rt; bytes.len() < 1000);
         let commands = read_script(alloc, bytes.as_slice())?;
         let shown = commands_shown(alloc, commands.as_slice())?;
         assert_eq!(rt; shown.as_str(), wanted, "{row}");
