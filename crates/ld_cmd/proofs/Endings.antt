@@ -1,12 +1,12 @@
 -- Complete runs, and runs that end with the usage line.
-use Rattle.std.proofs.Common.{◌≡◌, ℕ, List, [], ◌∷◌, Bool, true, false, is_some, Option, Some, None, IfSome, refl, ap, sym, subst, inl, inr}
+use Rattle.std.proofs.Common.{◌≡◌, ◌∙◌, ℕ, List, [], ◌∷◌, Bool, true, false, is_some, Option, Some, None, IfSome, refl, ap, sym, subst, inl, inr}
 use Rattle.ld_io.specs.Shelf.{Files}
 use Rattle.ld_cmd.specs.declared.status.Status.{Status}
 use Rattle.ld_cmd.specs.declared.status.Status.TheVariants.{Done, Faulted, Usage, Input, ReadFault, WriteFault, Memory, Limit}
 use Rattle.ld_cmd.specs.Ending.{EndsAs, IsComplete, Takes}
 use Rattle.ld_words.specs.Words.{Intent, intent_of, usage_line}
 use Rattle.ld_cmd.specs.Output.{commanded, output, usage}
-use Rattle.ld_cmd.specs.Written.{Output}
+use Rattle.ld_cmd.specs.Written.{Output, one_piece}
 
 -- the status of a run over files that are told
 abbrev pub EndsTold : Status → (Files → Output) → Option Files → Type 0
@@ -66,3 +66,16 @@ pub usage-told : (words : List (List ℕ)) (files : Option Files) (is_command : 
 unfolding output
 usage-told words None is_command is lacks = tt
 usage-told words (Some files) is_command is lacks = ap (λ found. commanded found files) (sym (no-intent is_command (intent_of words) is lacks))
+
+-- an output of one piece is put where it is not empty
+pub unput-told : {A : Type 0} (old new : A) (text : List ℕ) (status : Status) (wanted : Files → Output) (files : Option Files) → IfSome files (λ f. one_piece text status ≡ wanted f) → (text ≡ [] → new ≡ old) → IfSome files (λ f. (wanted f).pieces ≡ [] ∷ [] → new ≡ old)
+unput-told old new text status wanted None is stays = tt
+unput-told old new text status wanted (Some files) is stays = λ empty. stays (first-of (ap (λ (out : Output). out.pieces) is ∙ empty))
+  where
+    first-of : text ∷ [] ≡ [] ∷ [] → text ≡ []
+    first-of same = cc
+
+-- what was not put into stays
+pub unput-same : {A : Type 0} (out : A) (wanted : Files → Output) (files : Option Files) → IfSome files (λ f. (wanted f).pieces ≡ [] ∷ [] → out ≡ out)
+unput-same out wanted None = tt
+unput-same out wanted (Some files) = λ empty. refl

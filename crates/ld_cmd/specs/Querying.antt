@@ -1,6 +1,6 @@
 -- A query over the files of a shelf: what its root reaches is learnt, and then the texts as they stand answer it by
 -- recursive expansion.
-use Rattle.std.specs.Prelude.{◌≡◌, ℕ, List, ◌∷◌, Option, Some, None, Result, Ok, Err}
+use Rattle.std.specs.Prelude.{◌≡◌, ℕ, List, Option, Some, None, Result, Ok, Err}
 use Rattle.ld_io.specs.Shelf.{Files}
 use Rattle.ld_names.specs.Standing.{Known, Text, known_map}
 use Rattle.ld_names.specs.declared.file.FileId.{FileId}

@@ -4,7 +4,7 @@ ghost use Rattle.std.specs.Path.{rsplit_once, slash};
 ghost use Rattle.std.specs.Result.{result_map_both};
 ghost use Rattle.ld_cmd.specs.Folders.{folder_in, library_folder, model_folder};
 
-use std::alloc::{AllocError, AllocFailed, Global};
+use std::alloc::{AllocError, Global};
 use std::env::VarError;
 
 // Why the command line can't be used.
@@ -16,13 +16,12 @@ pub(crate) enum Unusable {
 }
 
 impl From<AllocError> for Unusable {
-    fn from(_error: AllocError) -> Unusable {
-        Unusable::Memory
-    }
-}
+    ghost use Rattle.std.specs.Prelude.{◌≡◌};
+    ghost use Rattle.ld_cmd.specs.declared.folders.Unusable.TheVariants.{Memory};
 
-impl<T: Drop> From<AllocFailed<T>> for Unusable {
-    fn from(_error: AllocFailed<T>) -> Unusable {
+    ghost from_gives = { λ _ e. e ≡ Memory };
+
+    fn from(_error: AllocError) -> Unusable {
         Unusable::Memory
     }
 }

@@ -1,5 +1,9 @@
 // The command line, the disk and standard output: the one part that no test in memory reaches.
-ghost use Rattle.std.specs.Prelude.{◌≡◌, IfOk, map, string_bytes};
+ghost use Rattle.std.specs.Prelude.{◌≡◌, [], Err, IfOk, Ok, drop, map, string_bytes};
+ghost use Rattle.std.specs.Result.{IsErr};
+ghost use Rattle.std.specs.Vec.Iter.{into_iter_items};
+ghost use Rattle.ld_words.specs.Words.{intent_of};
+ghost use Rattle.ld_cmd.specs.Ending.{UsageIsExact};
 ghost use Rattle.ld_cmd.specs.Folders.{model_folder};
 
 use crate::folders::{Unusable, library_folder, model_folder};
@@ -7,6 +11,7 @@ use crate::run::run;
 use crate::status::Status;
 use ld_io::{OsShelf, StdSink};
 use std::alloc::{AllocError, Global};
+use std::env::Args;
 use std::rt::{Env, Files};
 use std::{env, io};
 
@@ -19,21 +24,31 @@ struct Given {
 
 /// Answers the command line.
 pub(crate) fn answer<R: Env + Files + Print + AllocGlobal + Copy>(rt: R) -> Status {
-    match ask(&rt) {
+    match usable(rt.alloc(), ask(&rt)) {
         Ok(given) => answer_words(rt, given),
-        // Words that are no text are outside the grammar, as no words are.
-        Err(Unusable::NotText) => answer_words(
-            rt,
-            Given {
-                words: Vec::new(rt.alloc()),
-                library: String::new(rt.alloc()),
-            },
-        ),
-        Err(Unusable::Memory) => Status::Memory,
+        Err(_) => Status::Memory,
     }
 }
 
-fn answer_words<R: Env + Files + Print + AllocGlobal + Copy>(rt: R, given: Given) -> Status {
+// Words that are no text are outside the grammar, as no words are.
+fn usable(alloc: Global, asked: Result<Given, Unusable>) -> Result<Given, AllocError>
+    ensures text { IfOk asked (λ given. result ≡ Ok given) }
+    ensures no_text { asked ≡ Err Unusable.NotText → IfOk result (λ given. given.words.items ≡ []) }
+    ensures memory { IsErr result → asked ≡ Err Unusable.Memory }
+{
+    match asked {
+        Ok(given) => Ok(given),
+        Err(Unusable::NotText) => Ok(Given {
+            words: Vec::new(alloc),
+            library: String::new(alloc),
+        }),
+        Err(Unusable::Memory) => Err(AllocError),
+    }
+}
+
+fn answer_words<R: Env + Files + Print + AllocGlobal + Copy>(rt: R, given: Given) -> Status
+    ensures usage { UsageIsExact (intent_of (map string_bytes given.words.items)) result }
+{
     let alloc = rt.alloc();
     let Given { words, library } = given;
     let Ok(mut shelf) = shelf_of(alloc, rt, words.as_slice(), library) else {
@@ -59,15 +74,25 @@ fn shelf_of<R: Drop>(
 
 fn ask<R: Env + AllocGlobal>(rt: &R) -> Result<Given, Unusable> {
     let library = library_folder(rt.alloc(), env::var(rt, "LDRAWDIR"))?;
-    let mut words = Vec::new(rt.alloc());
     match env::args(rt) {
         Ok(args) => {
-            for word in args.skip(1) {
-                words.push(word)?;
-            }
+            let words = words_behind(rt.alloc(), args)?;
+            Ok(Given { words, library })
         }
-        Err(error) if error.kind() == io::ErrorKind::OutOfMemory => return Err(Unusable::Memory),
-        Err(_) => return Err(Unusable::NotText),
+        Err(error) if error.kind() == io::ErrorKind::OutOfMemory => Err(Unusable::Memory),
+        Err(_) => Err(Unusable::NotText),
     }
-    Ok(Given { words, library })
+}
+
+// The words after the program's name.
+fn words_behind(alloc: Global, args: Args) -> Result<Vec<String>, AllocError>
+    ensures { IfOk result (λ words. words.items ≡ drop 1 (into_iter_items args)) }
+{
+    let mut rest = args;
+    let _program = rest.next();
+    let mut words = Vec::new(alloc);
+    while let Some(word) = rest.next() {
+        words.push(word)?;
+    }
+    Ok(words)
 }

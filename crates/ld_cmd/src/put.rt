@@ -14,6 +14,7 @@ pub(crate) fn put_last<K: Sink>(out: &mut K, piece: &[u8], status: Status) -> St
     ensures cause { result ≡ Status.WriteFault → HasRisen (K.faults out.old) (K.faults out.new) }
     ensures never_read { result ≢ Status.ReadFault }
     ensures nothing { IfSome (K.taken out.old) (λ before. TakesNothing result before (K.taken out.new)) }
+    ensures unput { piece.now ≡ [] → out.new ≡ out.old }
     ensures in_front { IfSome (K.taken out.old) (λ before. StandsInFront before (K.taken out.new)) }
     ensures told_same { is_some (K.taken out.new) ≡ is_some (K.taken out.old) }
     ensures never_falls { K.faults out.old ≤ K.faults out.new }

@@ -39,6 +39,9 @@ pub fn run<S: Shelf, K: Sink>(alloc: Global, words: &[String], shelf: &mut S, ou
     // Nothing but a script's replies is taken where reading or memory stopped the run.
     ensures nothing { PutsOnce (intent_of (map string_bytes words.now)) → IfSome (K.taken out.old)
         (λ before. TakesNothing result before (K.taken out.new)) }
+    // An empty piece is not put: where it is all of a command's output, the sink stays as it was.
+    ensures unput { PutsOnce (intent_of (map string_bytes words.now)) → IfSome (S.files shelf.old)
+        (λ files. (output (map string_bytes words.now) files).pieces ≡ [] ∷ [] → out.new ≡ out.old) }
     ensures in_front { IfSome (K.taken out.old) (λ before. StandsInFront before (K.taken out.new)) }
     ensures same_files { S.files shelf.new ≡ S.files shelf.old }
     ensures told_same { is_some (K.taken out.new) ≡ is_some (K.taken out.old) }

@@ -24,6 +24,7 @@ use crate::tests::ordinary::ORDINARY;
 use crate::tests::outside::OUTSIDE;
 use crate::tests::words::WORDS;
 use crate::{Status, run};
+use itoa::Buffer;
 use ld_io::{MemShelf, MemSink, Place};
 use ld_line::read_number;
 use std::alloc::{AllocError, Global};
@@ -179,6 +180,109 @@ fn the_greatest_file(rt: HostRuntime) -> Result<(), Fail> {
     assert!(rt; ends_as(alloc, b' ', 33_554_433, Status::Limit, "toobig m.ldr\n")?);
     assert!(rt; ends_as(alloc, b'\n', 8_388_608, Status::Done, "")?);
     assert!(rt; ends_as(alloc, b'\n', 8_388_609, Status::Limit, "full weight 0\n")?);
+    Ok(())
+}
+
+// A model of so many blocks, the first of which refers to `x.dat`.
+fn blocks_of(alloc: Global, count: u32) -> Result<Vec<u8>, AllocError> {
+    let mut text = Vec::from_slice(alloc, b"0 FILE m.ldr\n1 16 0 0 0 1 0 0 0 1 0 0 0 1 x.dat\n")?;
+    for index in 1..count {
+        text.extend_from_slice(b"0 FILE ")?;
+        text.extend_from_slice(Buffer::new().format(index).as_bytes())?;
+        text.push(b'\n')?;
+    }
+    Ok(text)
+}
+
+// Whether a command over a model, with the library's file `x.dat`, ends with this status and this line.
+fn is_ended(
+    alloc: Global,
+    words: &str,
+    model: &[u8],
+    part: &[u8],
+    status: Status,
+    line: &str,
+) -> Result<bool, AllocError> {
+    let mut shelf = MemShelf::new(alloc);
+    shelf.add(Place::Work, b"m.ldr", model)?;
+    shelf.add(Place::Work, b"query", b"faces")?;
+    shelf.add(Place::Work, b"drop", b"drop\tparts\tx.dat")?;
+    shelf.add(Place::Work, b"insert", b"ins\tmodel\tm.ldr\t1\t0 a comment")?;
+    shelf.add(Place::Parts, b"x.dat", part)?;
+    let mut sink = MemSink::new(alloc);
+    let got = run_line(alloc, words, &mut shelf, &mut sink)?;
+    Ok(got == status && sink.bytes() == line.as_bytes())
+}
+
+// Whether a command, a query of a script and an edit of one all stop at a limit.
+fn all_stop(alloc: Global, model: &[u8], part: &[u8], line: &str) -> Result<bool, AllocError> {
+    let command = is_ended(alloc, "faces m.ldr", model, part, Status::Limit, line)?;
+    let query = is_ended(
+        alloc,
+        "replay m.ldr query",
+        model,
+        part,
+        Status::Limit,
+        line,
+    )?;
+    let edit = is_ended(alloc, "replay m.ldr drop", model, part, Status::Limit, line)?;
+    Ok(command && query && edit)
+}
+
+// A limit at which learning stops is told, and not as want of memory.
+#[test]
+fn limits_of_learning(rt: HostRuntime) -> Result<(), Fail> {
+    let alloc = rt.alloc();
+    let model = blocks_of(alloc, 1)?;
+    let big = vec![in alloc; b' '; 33_554_433]?;
+    assert!(rt;
+        all_stop(
+            alloc,
+            model.as_slice(),
+            big.as_slice(),
+            "toobig parts/x.dat\n"
+        )?
+    );
+    let heavy = vec![in alloc; b'\n'; 8_388_607]?;
+    assert!(rt;
+        all_stop(
+            alloc,
+            model.as_slice(),
+            heavy.as_slice(),
+            "full weight 66\n"
+        )?
+    );
+    let many = blocks_of(alloc, 65_535)?;
+    assert!(rt; all_stop(alloc, many.as_slice(), b"", "full files 65535\n")?);
+    Ok(())
+}
+
+// So are one of loading, and one of an edit.
+#[test]
+fn limits_of_texts(rt: HostRuntime) -> Result<(), Fail> {
+    let alloc = rt.alloc();
+    let more = blocks_of(alloc, 65_536)?;
+    assert!(rt;
+        is_ended(
+            alloc,
+            "check m.ldr",
+            more.as_slice(),
+            b"",
+            Status::Limit,
+            "full files 65535\n"
+        )?
+    );
+    let full = vec![in alloc; b'\n'; 8_388_608]?;
+    assert!(rt;
+        is_ended(
+            alloc,
+            "replay m.ldr insert",
+            full.as_slice(),
+            b"",
+            Status::Done,
+            "refused full\n"
+        )?
+    );
     Ok(())
 }
 

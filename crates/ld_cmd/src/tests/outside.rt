@@ -7,6 +7,10 @@ faces m.ldr!0 0 0
 ^parts x.dat
 ~0 3 1
 part 16 - parts/x.dat at model/m.ldr:1
+@nothing to write is not put
+faces m.ldr!0 0 0
+^work m.ldr
+~0 1 0
 @first fetch fails
 faces m.ldr!1 0 0
 ^work m.ldr
@@ -121,4 +125,33 @@ faces
 parts^parts x.dat
 ~5 4 2
 refused filethere
+@fetch of an edit fails behind a reply
+replay m.ldr s.txt!3 0 0
+^work m.ldr
+0 a
+^work s.txt
+del\tmodel\tm.ldr\t1
+drop\tparts\tx.dat
+faces^parts x.dat
+~4 3 1
+ok
+@no file is fetched for findings but the model
+check m.ldr!0 0 0
+^work m.ldr
+1 16 0 0 0 1 0 0 0 1 0 0 0 1 x.dat
+^parts x.dat
+~1 1 1
+1 101
+1 107
+2 102
+3 104
+4 105
+5 106
+@no file is fetched for a made-up model
+gen 1!0 0 0
+^parts x.dat
+~0 0 1
+entries 4
+parts 1
+steps 1
 ";
