@@ -44,18 +44,6 @@ pub usage_takes : (status : Status) (wanted : Files → Output) (files : Option 
 usage_takes status wanted None before after is takes = tt
 usage_takes status wanted (Some files) before after is takes = subst (λ out. IfSome before (λ b. Takes status out.pieces b after)) is takes
 
--- one output is another
-abbrev pub SameTold : (Files → Output) → (Files → Output) → Option Files → Type 0
-SameTold given wanted files = IfSome files (λ f. given f ≡ wanted f)
-
-pub same_ends : (status : Status) (given wanted : Files → Output) (files : Option Files) → SameTold given wanted files → EndsTold status given files → EndsTold status wanted files
-same_ends status given wanted None same ends = tt
-same_ends status given wanted (Some files) same ends = subst (λ out. EndsAs status out.status) same ends
-
-pub same_takes : (status : Status) (given wanted : Files → Output) (files : Option Files) (before after : Option (List ℕ)) → SameTold given wanted files → TakesTold status given files before after → TakesTold status wanted files before after
-same_takes status given wanted None before after same takes = tt
-same_takes status given wanted (Some files) before after same takes = subst (λ out. IfSome before (λ b. Takes status out.pieces b after)) same takes
-
 no-intent : (is_command : Bool) (found : Option Intent) → is_command ≡ is_some found → is_command ≡ false → found ≡ None
 no-intent true found is lacks = absurd (cc)
 no-intent false None is lacks = refl
@@ -74,8 +62,3 @@ unput-told old new text status wanted (Some files) is stays = λ empty. stays (f
   where
     first-of : text ∷ [] ≡ [] ∷ [] → text ≡ []
     first-of same = cc
-
--- what was not put into stays
-pub unput-same : {A : Type 0} (out : A) (wanted : Files → Output) (files : Option Files) → IfSome files (λ f. (wanted f).pieces ≡ [] ∷ [] → out ≡ out)
-unput-same out wanted None = tt
-unput-same out wanted (Some files) = λ empty. refl

@@ -6,17 +6,8 @@ use Rattle.ld_names.specs.declared.file.FileId.{FileId}
 use Rattle.ld_texts.specs.Known.{weight_of, weight_of_lines, weight_of_text}
 use Rattle.ld_engine.specs.Laws.{MainIsFirst}
 use Rattle.ld_engine.specs.Learning.{LearnsFor, wanted_for}
-use Rattle.ld_engine.specs.Loading.{BeginsWith, Blocks, main_of}
-use Rattle.ld_mpd.specs.Blocks.{text_blocks}
-use Rattle.ld_cmd.specs.Output.{main_file}
+use Rattle.ld_engine.specs.Loading.{BeginsWith}
 use Rattle.ld_cmd.specs.Querying.{IsFirst}
-
-pub main-is : (own bytes : List ℕ) (main : FileId) → main_of (text_blocks own bytes) ≡ Some main → main_file own (text_blocks own bytes) ≡ main
-main-is own bytes main first = by-texts (text_blocks own bytes) first
-  where
-    by-texts : (texts : Blocks) → main_of texts ≡ Some main → main_file own texts ≡ main
-    by-texts [] is = absurd (cc)
-    by-texts (text ∷ texts) is = cc
 
 -- each line weighs 32 and more
 lines-weigh : (lines : List (List ℕ)) → 32 * length lines ≤ weight_of_lines lines

@@ -43,10 +43,6 @@ with-steps tint texts depth most root colour (Ok entries) given there is =
     within tint texts depth most root colour given.entries (there ∙ ap Ok (entries_are _ entries given is))
 with-steps tint texts depth most root colour (Err fault) given there is = cc
 
-pub answer-size : (tint : TintLaw) (limits : Limits) (root : FileId) (colour : Colour) (known : Known) (result : Result Answer AnswerError) → Answers limits root colour known result → IfOk result (λ answer. length answer.entries ≤ limits.entries)
-answer-size tint limits root colour known (Ok answer) is = with-steps tint (known_texts known) limits.depth limits.entries (record { 0 = is.id }) colour _ answer refl is.answer
-answer-size tint limits root colour known (Err error) is = tt
-
 pub answer-steps : (law : StepsOfAnswers) (limits : Limits) (root : FileId) (colour : Colour) (known : Known) (result : Result Answer AnswerError) → Answers limits root colour known result → IfOk result (λ answer. AreSteps (length answer.entries) answer.steps)
 answer-steps law limits root colour known (Ok answer) is = law (known_texts known) limits.depth limits.entries (record { 0 = is.id }) colour answer is.answer
 answer-steps law limits root colour known (Err error) is = tt

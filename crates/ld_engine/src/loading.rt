@@ -40,7 +40,8 @@ impl Workspace {
     ///
     /// # Errors
     ///
-    /// `Full` exactly where the text blocks pass a limit, by the first that does; `Memory`.
+    /// `Full` only where the text blocks pass a limit, by the first that does; `Memory`, which may
+    /// be answered in its place.
     pub fn load(&mut self, own: &Name, bytes: &[u8]) -> Result<FileId, LoadError>
         requires nothing_known { self.old.texts.known ≡ [] }
         requires size { length bytes.now ≤ self.old.limits.file_bytes }
