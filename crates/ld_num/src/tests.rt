@@ -5,6 +5,7 @@ ghost use Rattle.ld_num.specs.Placing.{is_mirrored, is_singular, moved};
 
 use super::*;
 use std::alloc::{AllocError, Global};
+use std::test::Fail;
 
 // The definitions compute.
 #[tactic(auto, unfolding(crate::specs::Number::dec_of, crate::specs::Number::numeral_of, crate::specs::Number::powers_of))]
@@ -40,12 +41,16 @@ fn placements_compute()
 
 // What was read of a text, as it is printed.
 fn told(alloc: Global, read: Result<Dec, NumError>) -> Result<Vec<u8>, AllocError> {
-    let mut line = Vec::new(alloc);
     match read {
-        Ok(dec) => print_dec(dec, &mut line)?,
-        Err(NumError::NotANumber) => line.extend_from_slice(b"no number")?,
-        Err(NumError::OutOfRange) => line.extend_from_slice(b"too large")?,
+        Ok(dec) => printed(alloc, dec),
+        Err(NumError::NotANumber) => Vec::from_slice(alloc, b"no number"),
+        Err(NumError::OutOfRange) => Vec::from_slice(alloc, b"too large"),
     }
+}
+
+fn printed(alloc: Global, dec: Dec) -> Result<Vec<u8>, AllocError> {
+    let mut line = Vec::new(alloc);
+    print_dec(dec, &mut line)?;
     Ok(line)
 }
 
@@ -180,28 +185,47 @@ const FRONTS: &str = "\
 |no number|
 ";
 
-#[test]
-fn splits_each_row(rt: HostRuntime) {
-    for row in FRONTS.lines() {
-        let (text, want) = row.split_once('|').expect(&rt, "a row");
-        let (number, behind) = want.split_once('|').expect(&rt, "a row");
-        let (read, rest) = split_dec(text.as_bytes());
-        let line = told(rt.alloc(), read).expect(&rt, "memory");
-        assert_eq!(rt; line.as_slice(), number.as_bytes(), "{text}");
-        assert_eq!(rt; rest, behind.as_bytes(), "{text}");
-    }
+fn split_told(alloc: Global, text: &str) -> Result<Vec<u8>, AllocError> {
+    let (read, rest) = split_dec(text.as_bytes());
+    let mut line = told(alloc, read)?;
+    line.push(b'|')?;
+    line.extend_from_slice(rest)?;
+    Ok(line)
 }
 
 #[test]
-fn reads_many_digits(rt: HostRuntime) {
-    let mut nines = vec![in rt.alloc(); b'9'; 100_000].expect(&rt, "memory");
-    assert!(rt; read_dec(&nines) == Err(NumError::OutOfRange));
-    nines[0] = b'.';
-    assert!(rt; read_dec(&nines).is_ok_and(|dec| dec.millionths() == 1_000_000));
-    let mut zeros = vec![in rt.alloc(); b'0'; 100_000].expect(&rt, "memory");
-    assert!(rt; read_dec(&zeros) == Ok(Dec::zero()));
-    zeros[99_999] = b'x';
-    assert!(rt; read_dec(&zeros) == Err(NumError::NotANumber));
+fn splits_each_row(rt: HostRuntime) -> Result<(), Fail> {
+    let alloc = rt.alloc();
+    for row in FRONTS.lines() {
+        let (text, want) = row.split_once('|').ok_or("a row without a bar")?;
+        let line = split_told(alloc, text)?;
+        assert_eq!(rt; line.as_slice(), want.as_bytes(), "{text:?}");
+    }
+    Ok(())
+}
+
+// What was read of 100 000 bytes, all of them one digit but the first and the last.
+fn told_of_many(alloc: Global, first: u8, digit: u8, last: u8) -> Result<Vec<u8>, AllocError> {
+    let mut text = Vec::new(alloc);
+    text.push(first)?;
+    for _ in 0..99_998 {
+        text.push(digit)?;
+    }
+    text.push(last)?;
+    told(alloc, read_dec(text.as_slice()))
+}
+
+#[test]
+fn reads_many_digits(rt: HostRuntime) -> Result<(), Fail> {
+    let nines = told_of_many(rt.alloc(), b'9', b'9', b'9')?;
+    assert_eq!(rt; nines.as_slice(), b"too large".as_slice());
+    let behind_period = told_of_many(rt.alloc(), b'.', b'9', b'9')?;
+    assert_eq!(rt; behind_period.as_slice(), b"1".as_slice());
+    let zeros = told_of_many(rt.alloc(), b'0', b'0', b'0')?;
+    assert_eq!(rt; zeros.as_slice(), b"0".as_slice());
+    let no_digit = told_of_many(rt.alloc(), b'0', b'0', b'x')?;
+    assert_eq!(rt; no_digit.as_slice(), b"no number".as_slice());
+    Ok(())
 }
 
 // In each line twelve numbers of a placement, three of a point, and what is printed of the point moved.
@@ -232,10 +256,17 @@ fn numbers(text: &str) -> [Dec; 12] {
     let mut numbers = [Dec::zero(); 12];
     for (index, word) in text.split(' ').enumerate() {
         if index < 12 {
-            numbers[index] = read_dec(word.as_bytes()).unwrap_or(Dec::zero());
+            numbers[index] = number(word);
         }
     }
     numbers
+}
+
+fn number(word: &str) -> Dec {
+    match read_dec(word.as_bytes()) {
+        Ok(dec) => dec,
+        Err(_) => Dec::zero(),
+    }
 }
 
 fn placement(text: &str) -> Placement {
@@ -272,25 +303,50 @@ fn moved_text(alloc: Global, by: &str, point: &str) -> Result<Vec<u8>, AllocErro
 }
 
 #[test]
-fn places_each_row(rt: HostRuntime) {
+fn places_each_row(rt: HostRuntime) -> Result<(), Fail> {
     for row in PLACED.lines() {
-        let (by, rest) = row.split_once('|').expect(&rt, "a row");
-        let (point, want) = rest.split_once('|').expect(&rt, "a row");
-        let line = moved_text(rt.alloc(), by, point).expect(&rt, "memory");
+        let (by, rest) = row.split_once('|').ok_or("a row without a bar")?;
+        let (point, want) = rest.split_once('|').ok_or("a row without a bar")?;
+        let line = moved_text(rt.alloc(), by, point)?;
         assert_eq!(rt; line.as_slice(), want.as_bytes(), "{row}");
     }
-    for (row, want) in [
-        ("9 9 9 -1 0 0 0 1 0 0 0 1", (true, false)),
-        ("0 0 0 1 2 3 4 5 6 7 8 9.000001", (true, false)),
-        ("0 0 0 1000000 0 0 0 -1000000 0 0 0 1000000", (true, false)),
-        ("0 0 0 1 0 0 0 1 0 0 0 1", (false, false)),
-        ("0 0 0 1 2 3 4 5 6 7 8 8.999999", (false, false)),
-        ("0 0 0 1 2 3 4 5 6 7 8 9", (false, true)),
-        ("0 0 0 1 0 0 0 0 0 0 0 1", (false, true)),
-    ] {
-        let by = placement(row);
-        assert!(rt; (mirrored(&by), singular(&by)) == want, "{row}");
+    Ok(())
+}
+
+// In each line twelve numbers of a placement, and whether it is mirrored or singular.
+const MATRICES: &str = "\
+9 9 9 -1 0 0 0 1 0 0 0 1|mirrored
+0 0 0 1 2 3 4 5 6 7 8 9.000001|mirrored
+0 0 0 1000000 0 0 0 -1000000 0 0 0 1000000|mirrored
+0 0 0 1 0 0 0 1 0 0 0 1|neither
+0 0 0 1 2 3 4 5 6 7 8 8.999999|neither
+0 0 0 1 2 3 4 5 6 7 8 9|singular
+0 0 0 1 0 0 0 0 0 0 0 1|singular
+";
+
+fn told_matrix(by: &Placement) -> &'static str {
+    told_turn(mirrored(by), singular(by))
+}
+
+fn told_turn(mirrored: bool, singular: bool) -> &'static str {
+    if mirrored && singular {
+        "both"
+    } else if mirrored {
+        "mirrored"
+    } else if singular {
+        "singular"
+    } else {
+        "neither"
     }
+}
+
+#[test]
+fn tells_each_matrix(rt: HostRuntime) -> Result<(), Fail> {
+    for row in MATRICES.lines() {
+        let (by, want) = row.split_once('|').ok_or("a row without a bar")?;
+        assert_eq!(rt; told_matrix(&placement(by)), want, "{row}");
+    }
+    Ok(())
 }
 
 fn crosses_threads<T: Send + Sync>() {}
