@@ -7,6 +7,7 @@ ghost use Rattle.ld_mpd.specs.declared.joining.JoinError.TheVariants.{BadBlock, 
 use crate::{Block, JoinError, join, split, text_of};
 use ld_names::{Bytes, Lines, normal};
 use std::alloc::{AllocError, Global};
+use std::slice;
 
 // Files, with `%` for a byte-order mark, `^` for CR LF and `~` for LF, and their blocks. The first is
 // the worked example mpd.
@@ -46,26 +47,26 @@ text x|1;data x|0 FILE y;data x|2 => BadBlock(2)\n\
 text x|1;data y|1;text z|a~b => BadBlock(3)\n\
 data x|0 NOFILE;data x|1 => NoText";
 
-fn push_byte(bytes: &mut Vec<u8>, byte: u8) -> Result<(), AllocError> {
-    match byte {
-        b'%' => bytes.extend_from_slice(b"\xEF\xBB\xBF"),
-        b'^' => bytes.extend_from_slice(b"\r\n"),
-        b'~' => bytes.extend_from_slice(b"\n"),
-        byte => bytes.extend_from_slice(&[byte]),
+fn bytes_of(byte: &u8) -> &[u8] {
+    match *byte {
+        b'%' => b"\xEF\xBB\xBF",
+        b'^' => b"\r\n",
+        b'~' => b"\n",
+        _ => slice::from_ref(byte),
     }
 }
 
 fn file(alloc: Global, text: &str) -> Result<Vec<u8>, AllocError> {
     let mut bytes = Vec::new(alloc);
     for byte in text.as_bytes() {
-        push_byte(&mut bytes, *byte)?;
+        bytes.extend_from_slice(bytes_of(byte))?;
     }
     Ok(bytes)
 }
 
 fn show_lines(shown: &mut Vec<u8>, lines: &[Bytes]) -> Result<(), AllocError> {
     for line in lines {
-        shown.extend_from_slice(b"|")?;
+        shown.push(b'|')?;
         shown.extend_from_slice(line.as_slice())?;
     }
     Ok(())
@@ -126,12 +127,14 @@ fn cuts(alloc: Global, bytes: &[u8], wanted: &[u8]) -> bool {
     are_shown(alloc, blocks.as_slice(), wanted) && cuts_again(alloc, blocks.as_slice(), wanted)
 }
 
+fn show_text(shown: &mut Vec<u8>, bytes: &[u8]) -> Result<(), AllocError> {
+    let lines = text_of(*shown.allocator(), bytes)?;
+    show_lines(shown, lines.as_slice())
+}
+
 fn has_text(alloc: Global, bytes: &[u8], wanted: &[u8]) -> bool {
-    let Ok(lines) = text_of(alloc, bytes) else {
-        return false;
-    };
     let mut shown = Vec::new(alloc);
-    show_lines(&mut shown, lines.as_slice()).is_ok() && shown.as_slice() == wanted
+    show_text(&mut shown, bytes).is_ok() && shown.as_slice() == wanted
 }
 
 // A block of one line, as `text x|0 NOFILE`.
