@@ -99,52 +99,66 @@ fn states_behind_lines(rt: HostRuntime) -> Result<(), Fail> {
     Ok(())
 }
 
-// A text's certification, whether it is a part text, and whether it passes certification on.
-const CERTIFICATION: [(Cert, bool, bool); 6] = [
-    (Cert::Yes, false, true),
-    (Cert::Yes, true, true),
-    (Cert::No, false, false),
-    (Cert::No, true, false),
-    (Cert::Silent, false, true),
-    (Cert::Silent, true, false),
-];
+fn state_of(cert: Cert, part: bool, clip: bool, invert_next: bool) -> State {
+    State {
+        cert,
+        clip,
+        invert_next,
+        winding: Winding::Cw,
+        ..start(part)
+    }
+}
 
+fn has_face(state: State, certified: bool, clip: bool) -> bool {
+    face(state) == (certified, clip, Winding::Cw)
+}
+
+fn passes(state: State, mirrored: bool, below: Below) -> bool {
+    below_of(state, mirrored) == below
+}
+
+// Whether the faces of a text, and what its references pass down, are as wanted.
+fn is_culled(cert: Cert, part: bool, enable: bool, clip: bool) -> bool {
+    let plain = state_of(cert, part, clip, false);
+    let waiting = state_of(cert, part, clip, true);
+    let straight = Below {
+        enable,
+        clip,
+        invert: false,
+    };
+    let turned = Below {
+        enable,
+        clip,
+        invert: true,
+    };
+    let certified = matches!(cert, Cert::Yes);
+    has_face(plain, certified, clip)
+        && has_face(waiting, certified, clip)
+        && passes(plain, false, straight)
+        && passes(plain, true, turned)
+        && passes(waiting, false, turned)
+        && passes(waiting, true, straight)
+}
+
+// A text's certification, whether it is a part text, and whether it passes certification on.
 #[test]
 fn faces_and_references(rt: HostRuntime) {
-    for (cert, part, enable) in CERTIFICATION {
-        for (invert_next, mirrored, invert) in [
-            (false, false, false),
-            (false, true, true),
-            (true, false, true),
-            (true, true, false),
-        ] {
-            for clip in [false, true] {
-                let state = State {
-                    cert,
-                    clip,
-                    invert_next,
-                    winding: Winding::Cw,
-                    ..start(part)
-                };
-                let below = Below {
-                    enable,
-                    clip,
-                    invert,
-                };
-                assert_eq!(rt;
-                    below_of(state, mirrored),
-                    below,
-                    "{cert:?} {part} {invert_next} {mirrored}"
-                );
-                let certified = matches!(cert, Cert::Yes);
-                assert_eq!(rt;
-                    face(state),
-                    (certified, clip, Winding::Cw),
-                    "{cert:?} {part}"
-                );
-            }
-        }
+    for clip in [false, true] {
+        assert!(rt; is_culled(Cert::Yes, false, true, clip));
+        assert!(rt; is_culled(Cert::Yes, true, true, clip));
+        assert!(rt; is_culled(Cert::No, false, false, clip));
+        assert!(rt; is_culled(Cert::No, true, false, clip));
+        assert!(rt; is_culled(Cert::Silent, false, true, clip));
+        assert!(rt; is_culled(Cert::Silent, true, false, clip));
     }
+}
+
+fn are_with(outer: Below, inner: Below, wanted: Below) -> bool {
+    with(outer, inner) == wanted
+}
+
+#[test]
+fn two_references(rt: HostRuntime) {
     let turned = Below {
         enable: true,
         clip: true,
@@ -159,28 +173,22 @@ fn faces_and_references(rt: HostRuntime) {
         clip: false,
         ..plain
     };
-    assert_eq!(rt; with(turned, turned), plain);
-    assert_eq!(rt; with(turned, plain), turned);
-    assert_eq!(rt;
-        with(bare, turned),
-        Below {
-            invert: true,
-            ..bare
-        }
-    );
-    assert_eq!(rt;
-        with(
-            turned,
-            Below {
-                enable: true,
-                ..bare
-            }
-        ),
-        Below {
-            clip: false,
-            ..turned
-        }
-    );
+    let turned_bare = Below {
+        invert: true,
+        ..bare
+    };
+    let enabled = Below {
+        enable: true,
+        ..bare
+    };
+    let unclipped = Below {
+        clip: false,
+        ..turned
+    };
+    assert!(rt; are_with(turned, turned, plain));
+    assert!(rt; are_with(turned, plain, turned));
+    assert!(rt; are_with(bare, turned, turned_bare));
+    assert!(rt; are_with(turned, enabled, unclipped));
 }
 
 fn crosses_threads<T: Send + Sync>() {}
