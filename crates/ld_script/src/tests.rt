@@ -3,7 +3,6 @@ use crate::{Command, Query, Root, read_script};
 use ld_names::FileId;
 use ld_texts::Edit;
 use std::alloc::{AllocError, Global};
-use std::test::Fail;
 
 // A script and its commands. `|` stands for a TAB, `~` for a line feed and `^` for a carriage return;
 // a text stands between `<` and `>`.
@@ -92,20 +91,28 @@ fn script_byte(byte: u8) -> u8 {
     }
 }
 
-fn shown_char(byte: u8) -> char {
+fn script_of(alloc: Global, text: &str) -> Result<Vec<u8>, AllocError> {
+    let mut bytes = Vec::new(alloc);
+    for byte in text.as_bytes() {
+        bytes.push(script_byte(*byte))?;
+    }
+    Ok(bytes)
+}
+
+fn shown_byte(byte: u8) -> u8 {
     match byte {
-        b'\t' => '|',
-        b'\r' => '^',
-        _ => char::from(byte),
+        b'\t' => b'|',
+        b'\r' => b'^',
+        _ => byte,
     }
 }
 
 fn text_shown(alloc: Global, bytes: &[u8]) -> Result<String, AllocError> {
-    let mut shown = String::new(alloc);
+    let mut shown = Vec::new(alloc);
     for byte in bytes {
-        shown.push(shown_char(*byte))?;
+        shown.push(shown_byte(*byte))?;
     }
-    Ok(shown)
+    String::from_utf8_lossy(alloc, shown.as_slice())
 }
 
 fn file_shown(alloc: Global, file: &FileId) -> Result<String, AllocError> {
@@ -175,18 +182,31 @@ fn commands_shown(alloc: Global, commands: &[Command]) -> Result<String, AllocEr
     Ok(shown)
 }
 
+fn script_shown(alloc: Global, text: &str) -> Result<String, AllocError> {
+    let script = script_of(alloc, text)?;
+    if script.len() >= 1000 {
+        return String::from_str(alloc, "too long");
+    }
+    let commands = read_script(alloc, script.as_slice())?;
+    commands_shown(alloc, commands.as_slice())
+}
+
+fn script_row_holds(alloc: Global, row: &str) -> bool {
+    let Some((script, wanted)) = row.split_once(" => ") else {
+        return false;
+    };
+    match script_shown(alloc, script) {
+        Ok(shown) => shown.as_str() == wanted,
+        Err(_) => false,
+    }
+}
+
 #[test]
-fn scripts(rt: HostRuntime) -> Result<(), Fail> {
+fn scripts(rt: HostRuntime) {
     let alloc = rt.alloc();
     for row in SCRIPTS.lines() {
-        let (script, wanted) = row.split_once(" => ").ok_or("a row without =>")?;
-        let bytes: Vec<u8> = script.bytes().map(script_byte).collect(alloc)?;
-        assert!(rt; bytes.len() < 1000);
-        let commands = read_script(alloc, bytes.as_slice())?;
-        let shown = commands_shown(alloc, commands.as_slice())?;
-        assert_eq!(rt; shown.as_str(), wanted, "{row}");
+        assert!(rt; script_row_holds(alloc, row), "{row}");
     }
-    Ok(())
 }
 
 fn crosses_threads<T: Send + Sync>() {}
