@@ -9,7 +9,6 @@ ghost use Rattle.ld_colour.specs.declared.definition.DefinedEdge.TheVariants.{Va
 use crate::Colour::{self, Code, Direct, Edge, EdgeOf, Main};
 use crate::{Table, TableError};
 use std::alloc::{AllocError, Global};
-use std::test::Fail;
 
 // A line, and what a file of that line defines: a code with its VALUE and its EDGE, or nothing, or
 // the number of a bad line.
@@ -153,78 +152,97 @@ const CONFIGURATION: &str = "0 LDraw.org Configuration File\r\n\
 // Codes that the lines above define, with a code's VALUE and EDGE.
 const CODES: [u32; 6] = [0, 1, 4, 16, 24, 4294967295];
 
-fn shown(alloc: Global, bytes: &[u8]) -> Result<String, AllocError> {
-    if bytes.len() > 0xFFFFFFFF {
-        return String::from_str(alloc, "too long");
+fn shown_code(alloc: Global, table: &Table, code: u32, value: u32) -> Result<String, AllocError> {
+    match table.rgb(EdgeOf(code)) {
+        Some(edge) => format!(in alloc; "{code}:{value:06X}/{edge:06X}"),
+        None => format!(in alloc; "{code}:{value:06X}/-"),
     }
-    let table = match Table::read(alloc, bytes) {
-        Ok(table) => table,
-        Err(TableError::BadColour(line)) => return format!(in alloc; "bad {line}"),
-        Err(TableError::Memory) => return Err(AllocError),
-    };
+}
+
+fn shown_table(alloc: Global, table: &Table) -> Result<String, AllocError> {
     for code in CODES {
         if let Some(value) = table.rgb(Code(code)) {
-            return match table.rgb(EdgeOf(code)) {
-                Some(edge) => format!(in alloc; "{code}:{value:06X}/{edge:06X}"),
-                None => format!(in alloc; "{code}:{value:06X}/-"),
-            };
+            return shown_code(alloc, table, code, value);
         }
     }
     String::from_str(alloc, "none")
 }
 
-#[test]
-fn lines_of_colour_files(rt: HostRuntime) -> Result<(), Fail> {
-    let alloc = rt.alloc();
-    for row in LINES.lines() {
-        let (line, want) = row.split_once(" => ").ok_or("a row without =>")?;
-        let got = shown(alloc, line.as_bytes())?;
-        assert_eq!(rt; got.as_str(), want, "{line:?}");
+fn shown(alloc: Global, bytes: &[u8]) -> Result<String, AllocError> {
+    if bytes.len() > 0xFFFFFFFF {
+        return String::from_str(alloc, "too long");
     }
-    Ok(())
+    match Table::read(alloc, bytes) {
+        Ok(table) => shown_table(alloc, &table),
+        Err(TableError::BadColour(line)) => format!(in alloc; "bad {line}"),
+        Err(TableError::Memory) => Err(AllocError),
+    }
+}
+
+fn file_byte(byte: u8) -> u8 {
+    match byte {
+        b'|' => b'\n',
+        byte => byte,
+    }
+}
+
+fn file_of(alloc: Global, text: &str) -> Result<Vec<u8>, AllocError> {
+    let mut bytes = Vec::new(alloc);
+    for byte in text.as_bytes() {
+        bytes.push(file_byte(*byte))?;
+    }
+    Ok(bytes)
+}
+
+fn file_shown(alloc: Global, text: &str) -> Result<String, AllocError> {
+    let file = file_of(alloc, text)?;
+    shown(alloc, file.as_slice())
+}
+
+// Whether a file, with `|` for a line feed, defines what its row says.
+fn row_holds(alloc: Global, row: &str) -> bool {
+    let Some((text, want)) = row.split_once(" => ") else {
+        return false;
+    };
+    match file_shown(alloc, text) {
+        Ok(got) => got.as_str() == want,
+        Err(_) => false,
+    }
 }
 
 #[test]
-fn whole_colour_files(rt: HostRuntime) -> Result<(), Fail> {
+fn lines_of_colour_files(rt: HostRuntime) {
     let alloc = rt.alloc();
-    let files: [(&[u8], &str); 9] = [
-        (b"", "none"),
-        (
-            b"\xEF\xBB\xBF0 !COLOUR A CODE 0 VALUE #000001 EDGE #000002\n",
-            "0:000001/000002",
-        ),
-        (b"0 a comment\n0 !COLOUR X CODE 4 VALUE red EDGE 0", "bad 2"),
-        (b"\n\r\n0 !COLOUR\n0 !COLOUR\n", "bad 3"),
-        (
-            b"0 !COLOUR A CODE 0 VALUE #000001 EDGE 0\n0 !COLOUR A CODE 0 VALUE #000002 EDGE 0\n",
-            "0:000002/000002",
-        ),
-        (
-            b"0 !COLOUR A CODE 0 VALUE #000001 EDGE 4\n0 !COLOUR B CODE 4 VALUE #000002 EDGE 0\n",
-            "0:000001/000002",
-        ),
-        (
-            b"0 !COLOUR A CODE 0 VALUE #000001 EDGE #000002\n0 !COLOUR A CODE 0 VALUE #000003 EDGE 9\n",
-            "0:000003/-",
-        ),
-        (
-            b"0 !COLOUR A CODE 1 VALUE #000001 EDGE 2\n0 !COLOUR B CODE 2 VALUE #000002 EDGE 3\n",
-            "1:000001/000002",
-        ),
-        (
-            b"0 !COLOUR A CODE 0 VALUE #000001 EDGE 0\n0 !COLOUR A CODE 0 VALUE #0002 EDGE 0\n0 !COLOUR",
-            "bad 2",
-        ),
-    ];
-    for (bytes, want) in files {
-        let got = shown(alloc, bytes)?;
-        assert_eq!(rt; got.as_str(), want, "{want:?}");
+    for row in LINES.lines() {
+        assert!(rt; row_holds(alloc, row), "{row:?}");
     }
-    let table = Table::empty(alloc);
+}
+
+// Files, with `|` for a line feed, and what they define.
+const FILES: &str = " => none\n\
+\u{FEFF}0 !COLOUR A CODE 0 VALUE #000001 EDGE #000002| => 0:000001/000002\n\
+0 a comment|0 !COLOUR X CODE 4 VALUE red EDGE 0 => bad 2\n\
+|\r|0 !COLOUR|0 !COLOUR| => bad 3\n\
+0 !COLOUR A CODE 0 VALUE #000001 EDGE 0|0 !COLOUR A CODE 0 VALUE #000002 EDGE 0| => 0:000002/000002\n\
+0 !COLOUR A CODE 0 VALUE #000001 EDGE 4|0 !COLOUR B CODE 4 VALUE #000002 EDGE 0| => 0:000001/000002\n\
+0 !COLOUR A CODE 0 VALUE #000001 EDGE #000002|0 !COLOUR A CODE 0 VALUE #000003 EDGE 9| => 0:000003/-\n\
+0 !COLOUR A CODE 1 VALUE #000001 EDGE 2|0 !COLOUR B CODE 2 VALUE #000002 EDGE 3| => 1:000001/000002\n\
+0 !COLOUR A CODE 0 VALUE #000001 EDGE 0|0 !COLOUR A CODE 0 VALUE #0002 EDGE 0|0 !COLOUR => bad 2";
+
+#[test]
+fn whole_colour_files(rt: HostRuntime) {
+    let alloc = rt.alloc();
+    for row in FILES.lines() {
+        assert!(rt; row_holds(alloc, row), "{row:?}");
+    }
+}
+
+#[test]
+fn an_empty_table(rt: HostRuntime) {
+    let table = Table::empty(rt.alloc());
     for (colour, rgb) in [(Direct(7), Some(7)), (Code(4), None), (Main, None)] {
         assert_eq!(rt; table.rgb(colour), rgb, "{colour:?}");
     }
-    Ok(())
 }
 
 // The row `colours`: a colour, and its rgb.
@@ -254,21 +272,24 @@ const CONFIGURED: [(Colour, Option<u32>); 9] = [
 ];
 
 #[test]
-fn colours_and_the_published_configuration(rt: HostRuntime) -> Result<(), Fail> {
+fn colours_and_the_published_configuration(rt: HostRuntime) {
     let alloc = rt.alloc();
     let file = b"0 !COLOUR Red CODE 4 VALUE #C91A09 EDGE #333333\n\
 0 !COLOUR Blue CODE 1 VALUE 0x0055bf EDGE 0\n\
 0 !COLOUR Black CODE 0 VALUE #05131D EDGE #595959";
-    let table = Table::read(alloc, file).map_err(|_| "no table")?;
-    for (colour, rgb) in COLOURS {
-        assert_eq!(rt; table.rgb(colour), rgb, "{colour:?}");
+    match Table::read(alloc, file) {
+        Ok(table) => for (colour, rgb) in COLOURS {
+            assert!(rt; table.rgb(colour) == rgb, "{colour:?}");
+        },
+        Err(_) => assert!(rt; false, "no table"),
     }
     assert!(rt; CONFIGURATION.len() < 10000);
-    let table = Table::read(alloc, CONFIGURATION.as_bytes()).map_err(|_| "no table")?;
-    for (colour, rgb) in CONFIGURED {
-        assert_eq!(rt; table.rgb(colour), rgb, "{colour:?}");
+    match Table::read(alloc, CONFIGURATION.as_bytes()) {
+        Ok(table) => for (colour, rgb) in CONFIGURED {
+            assert!(rt; table.rgb(colour) == rgb, "{colour:?}");
+        },
+        Err(_) => assert!(rt; false, "no table"),
     }
-    Ok(())
 }
 
 // The definitions, by computing.

@@ -6,48 +6,47 @@ ghost use Rattle.ld_colour.specs.declared.colour.Colour.TheVariants.{Code, Direc
 use crate::Colour::{self, Code, Direct, Edge, EdgeOf, Main};
 use crate::{Table, TableError, colour_of, edge, under};
 
-const WORDS: [(u32, Colour); 12] = [
-    (0, Code(0)),
-    (15, Code(15)),
-    (16, Main),
-    (17, Code(17)),
-    (23, Code(23)),
-    (24, Edge),
-    (25, Code(25)),
-    (0x1FFFFFF, Code(0x1FFFFFF)),
-    (0x2000000, Direct(0)),
-    (0x2FFFFFF, Direct(0xFFFFFF)),
-    (0x3000000, Code(0x3000000)),
-    (4294967295, Code(4294967295)),
-];
+// Whether a word of a line stands for a colour.
+fn stands_for(word: u32, colour: Colour) -> bool {
+    colour_of(word) == colour
+}
 
-// A colour, its edge colour, and what it is where Code(4) and where Edge is current.
-const COLOURS: [(Colour, Colour, Colour, Colour); 6] = [
-    (Main, Edge, Code(4), Edge),
-    (Edge, Edge, EdgeOf(4), Edge),
-    (Code(1), EdgeOf(1), Code(1), Code(1)),
-    (EdgeOf(1), EdgeOf(1), EdgeOf(1), EdgeOf(1)),
-    (
-        Direct(0xFF8000),
-        Direct(0x333333),
-        Direct(0xFF8000),
-        Direct(0xFF8000),
-    ),
-    (Direct(0), Direct(0x333333), Direct(0), Direct(0)),
-];
+// Whether a colour has an edge colour, and is this where Code(4) and that where Edge is current.
+fn becomes(colour: Colour, of_edges: Colour, in_red: Colour, in_edge: Colour) -> bool {
+    edge(colour) == of_edges && is_under(colour, Code(4), in_red) && is_under(colour, Edge, in_edge)
+}
+
+fn is_under(colour: Colour, current: Colour, wanted: Colour) -> bool {
+    under(colour, current) == wanted
+}
 
 #[test]
-fn words_edges_and_inheritance(rt: HostRuntime) {
-    for (word, colour) in WORDS {
-        assert_eq!(rt; colour_of(word), colour, "{word}");
-    }
-    for (colour, of_edges, in_red, in_edge) in COLOURS {
-        assert_eq!(rt; edge(colour), of_edges, "{colour:?}");
-        assert_eq!(rt; under(colour, Code(4)), in_red, "{colour:?}");
-        assert_eq!(rt; under(colour, Edge), in_edge, "{colour:?}");
-    }
-    assert_eq!(rt; under(Edge, Direct(1)), Direct(0x333333));
-    assert_eq!(rt; under(Edge, EdgeOf(7)), EdgeOf(7));
+fn words_of_lines(rt: HostRuntime) {
+    assert!(rt; stands_for(0, Code(0)));
+    assert!(rt; stands_for(15, Code(15)));
+    assert!(rt; stands_for(16, Main));
+    assert!(rt; stands_for(17, Code(17)));
+    assert!(rt; stands_for(23, Code(23)));
+    assert!(rt; stands_for(24, Edge));
+    assert!(rt; stands_for(25, Code(25)));
+    assert!(rt; stands_for(0x1FFFFFF, Code(0x1FFFFFF)));
+    assert!(rt; stands_for(0x2000000, Direct(0)));
+    assert!(rt; stands_for(0x2FFFFFF, Direct(0xFFFFFF)));
+    assert!(rt; stands_for(0x3000000, Code(0x3000000)));
+    assert!(rt; stands_for(4294967295, Code(4294967295)));
+}
+
+#[test]
+fn edges_and_inheritance(rt: HostRuntime) {
+    assert!(rt; becomes(Main, Edge, Code(4), Edge));
+    assert!(rt; becomes(Edge, Edge, EdgeOf(4), Edge));
+    assert!(rt; becomes(Code(1), EdgeOf(1), Code(1), Code(1)));
+    assert!(rt; becomes(EdgeOf(1), EdgeOf(1), EdgeOf(1), EdgeOf(1)));
+    let (orange, grey) = (Direct(0xFF8000), Direct(0x333333));
+    assert!(rt; becomes(orange, grey, orange, orange));
+    assert!(rt; becomes(Direct(0), grey, Direct(0), Direct(0)));
+    assert!(rt; is_under(Edge, Direct(1), grey));
+    assert!(rt; is_under(Edge, EdgeOf(7), EdgeOf(7)));
 }
 
 fn crosses_threads<T: Send + Sync>() {}
