@@ -8,109 +8,163 @@ use std::alloc::{AllocError, Global};
 use std::io;
 use std::io::{ErrorKind, Read, Write};
 
-type Answer = Result<Fetched, FetchError>;
+// A place, a name, the most bytes, and what a fetch gives.
+const FETCHES: &str = "Work empty 0 => Found\x20\n\
+Parts 3001.dat 4 => Found abcd\n\
+Parts 3001.dat 3 => TooBig abcd\n\
+Parts 3001.dat 0 => TooBig a\n\
+P 3001.dat 4294967295 => Found xyz\n\
+Model 3001.dat 4 => Absent\x20\n\
+Parts 3001.DAT 4 => Absent\x20";
 
-fn fetch_gives(
+fn is_shown(shown: Option<String>, want: &str) -> bool {
+    match shown {
+        Some(shown) => shown.as_str() == want,
+        None => false,
+    }
+}
+
+fn place_of(word: &str) -> Place {
+    match word {
+        "Model" => Place::Model,
+        "Parts" => Place::Parts,
+        "P" => Place::P,
+        _ => Place::Work,
+    }
+}
+
+fn fetch_word(got: Result<Fetched, FetchError>) -> &'static str {
+    match got {
+        Ok(Fetched::Found) => "Found",
+        Ok(Fetched::Absent) => "Absent",
+        Err(FetchError::Failed) => "Failed",
+        Err(FetchError::TooBig) => "TooBig",
+        Err(FetchError::Memory) => "Memory",
+    }
+}
+
+fn fetched(
     alloc: Global,
     shelf: &mut impl Shelf,
-    file: (Place, &str),
+    place: Place,
+    name: &str,
     max: u32,
-    answer: Answer,
-    bytes: &str,
-) -> bool {
+) -> Result<String, AllocError> {
     let mut into = Vec::new(alloc);
-    let (place, name) = file;
     let got = shelf.fetch(place, name.as_bytes(), u64::from(max), &mut into);
-    got == answer && into.as_slice() == bytes.as_bytes()
+    let bytes = String::from_utf8_lossy(alloc, into.as_slice())?;
+    let word = fetch_word(got);
+    format!(in alloc; "{word} {bytes}")
+}
+
+fn fetched_at(alloc: Global, shelf: &mut impl Shelf, file: &str) -> Option<String> {
+    let (place, rest) = file.split_once(' ')?;
+    let (name, max) = rest.split_once(' ')?;
+    let max = max.parse().ok()?;
+    fetched(alloc, shelf, place_of(place), name, max).ok()
+}
+
+// Whether a fetch gives what its row says.
+fn fetch_row_holds(alloc: Global, shelf: &mut impl Shelf, row: &str) -> bool {
+    let Some((file, want)) = row.split_once(" => ") else {
+        return false;
+    };
+    is_shown(fetched_at(alloc, shelf, file), want)
+}
+
+fn sure_shelf(alloc: Global) -> Result<SureShelf, AllocError> {
+    let mut shelf = SureShelf::new(alloc);
+    shelf.add(Place::Work, b"empty", b"")?;
+    shelf.add(Place::Parts, b"3001.dat", b"old")?;
+    shelf.add(Place::P, b"3001.dat", b"xyz")?;
+    shelf.add(Place::Parts, b"3001.dat", b"abcd")?;
+    Ok(shelf)
+}
+
+fn mem_shelf(alloc: Global) -> Result<MemShelf, AllocError> {
+    let mut shelf = MemShelf::new(alloc);
+    shelf.add(Place::Work, b"empty", b"")?;
+    shelf.add(Place::Parts, b"3001.dat", b"old")?;
+    shelf.add(Place::P, b"3001.dat", b"xyz")?;
+    shelf.add(Place::Parts, b"3001.dat", b"abcd")?;
+    shelf.fail(9)?;
+    shelf.fail(1)?;
+    Ok(shelf)
 }
 
 #[test]
 fn shelves_give_the_newest_file(rt: HostRuntime) -> Result<(), AllocError> {
     let alloc = rt.alloc();
-    let mut sure = SureShelf::new(alloc);
-    let mut mem = MemShelf::new(alloc);
-    let part = (Place::Parts, "3001.dat");
-    for (place, name, bytes) in [
-        (Place::Work, "empty", ""),
-        (Place::Parts, "3001.dat", "old"),
-        (Place::P, "3001.dat", "xyz"),
-        (Place::Parts, "3001.dat", "abcd"),
-    ] {
-        sure.add(place, name.as_bytes(), bytes.as_bytes())?;
-        mem.add(place, name.as_bytes(), bytes.as_bytes())?;
+    let mut sure = sure_shelf(alloc)?;
+    let mut mem = mem_shelf(alloc)?;
+    let failed = "Parts 3001.dat 4 => Failed ";
+    assert!(rt; fetch_row_holds(alloc, &mut mem, failed), "first fetch");
+    for row in FETCHES.lines() {
+        assert!(rt; fetch_row_holds(alloc, &mut sure, row), "{row}");
+        assert!(rt; fetch_row_holds(alloc, &mut mem, row), "{row}");
     }
-    mem.fail(9)?;
-    mem.fail(1)?;
-    let failed = Err(FetchError::Failed);
-    assert!(rt;
-        fetch_gives(alloc, &mut mem, part, 4, failed, ""),
-        "first fetch"
-    );
-    for (file, max, answer, bytes) in [
-        ((Place::Work, "empty"), 0, Ok(Fetched::Found), ""),
-        (part, 4, Ok(Fetched::Found), "abcd"),
-        (part, 3, Err(FetchError::TooBig), "abcd"),
-        (part, 0, Err(FetchError::TooBig), "a"),
-        ((Place::P, "3001.dat"), u32::MAX, Ok(Fetched::Found), "xyz"),
-        ((Place::Model, "3001.dat"), 4, Ok(Fetched::Absent), ""),
-        ((Place::Parts, "3001.DAT"), 4, Ok(Fetched::Absent), ""),
-    ] {
-        let sure_gives = fetch_gives(alloc, &mut sure, file, max, answer, bytes);
-        let mem_gives = fetch_gives(alloc, &mut mem, file, max, answer, bytes);
-        assert!(rt; sure_gives && mem_gives, "{bytes:?} up to {max}");
-    }
-    assert!(rt;
-        fetch_gives(alloc, &mut mem, part, 4, failed, ""),
-        "ninth fetch"
-    );
+    assert!(rt; fetch_row_holds(alloc, &mut mem, failed), "ninth fetch");
     Ok(())
 }
 
-// Three puts, of which one is to fail, and the bytes taken.
-fn puts_give(
-    alloc: Global,
-    call: u64,
-    taken: u64,
-    failing: u64,
-    bytes: &str,
-) -> Result<bool, AllocError> {
+// A call that is to fail and how many bytes it takes, and how three puts go, with the bytes taken.
+const PUTS: &str = "1 0 => failed ok ok cde\n\
+1 1 => failed ok ok acde\n\
+1 2 => failed ok ok acde\n\
+2 0 => ok ok ok abcde\n\
+3 0 => ok ok failed ab\n\
+3 1 => ok ok failed abc\n\
+3 2 => ok ok failed abcd\n\
+3 18446744073709551615 => ok ok failed abcd\n\
+4 0 => ok ok ok abcde";
+
+fn put_word(sink: &mut impl Sink, piece: &[u8]) -> &'static str {
+    match sink.put(piece) {
+        Ok(()) => "ok",
+        Err(PutError::Failed) => "failed",
+        Err(PutError::Memory) => "memory",
+    }
+}
+
+fn failing_sink(alloc: Global, call: u64, taken: u64) -> Result<MemSink, AllocError> {
     let mut sink = MemSink::new(alloc);
     sink.fail(call, 7)?;
     sink.fail(call, taken)?;
-    for (number, piece) in [(1, "ab"), (2, ""), (3, "cde")] {
-        let answer = if number == failing {
-            Err(PutError::Failed)
-        } else {
-            Ok(())
-        };
-        if sink.put(piece.as_bytes()) != answer {
-            return Ok(false);
-        }
-    }
-    Ok(sink.bytes() == bytes.as_bytes())
+    Ok(sink)
+}
+
+fn put_thrice(alloc: Global, call: u64, taken: u64) -> Result<String, AllocError> {
+    let mut sink = failing_sink(alloc, call, taken)?;
+    let first = put_word(&mut sink, b"ab");
+    let second = put_word(&mut sink, b"");
+    let third = put_word(&mut sink, b"cde");
+    let bytes = String::from_utf8_lossy(alloc, sink.bytes())?;
+    format!(in alloc; "{first} {second} {third} {bytes}")
+}
+
+fn put_at(alloc: Global, fault: &str) -> Option<String> {
+    let (call, taken) = fault.split_once(' ')?;
+    let call = call.parse().ok()?;
+    let taken = taken.parse().ok()?;
+    put_thrice(alloc, call, taken).ok()
+}
+
+fn put_row_holds(alloc: Global, row: &str) -> bool {
+    let Some((fault, want)) = row.split_once(" => ") else {
+        return false;
+    };
+    is_shown(put_at(alloc, fault), want)
 }
 
 #[test]
-fn listed_puts_take_a_part(rt: HostRuntime) -> Result<(), AllocError> {
+fn listed_puts_take_a_part(rt: HostRuntime) {
     let alloc = rt.alloc();
-    for (call, taken, failing, bytes) in [
-        (1, 0, 1, "cde"),
-        (1, 1, 1, "acde"),
-        (1, 2, 1, "acde"),
-        (2, 0, 0, "abcde"),
-        (3, 0, 3, "ab"),
-        (3, 1, 3, "abc"),
-        (3, 2, 3, "abcd"),
-        (3, u64::MAX, 3, "abcd"),
-        (4, 0, 0, "abcde"),
-    ] {
-        let gives = puts_give(alloc, call, taken, failing, bytes)?;
-        assert!(rt; gives, "put {call} after {taken}");
+    for row in PUTS.lines() {
+        assert!(rt; put_row_holds(alloc, row), "put {row}");
     }
     let mut sink = SureSink::new(alloc);
     assert!(rt; sink.put(b"ab").is_ok() && sink.put(b"c").is_ok());
     assert!(rt; sink.bytes() == "abc".as_bytes());
-    Ok(())
 }
 
 // Reads or writes two bytes a call at most, and fails the call of one number.
@@ -165,85 +219,133 @@ impl Write for Slow<'_> {
     }
 }
 
+// The most bytes, the read that fails and how, and what reading gives, with the bytes and the calls.
+const READS: &str = "5 0 Other => Ok(()) abcde 4\n\
+6 0 Other => Ok(()) abcde 4\n\
+4 0 Other => Err(TooBig) abcde 3\n\
+0 0 Other => Err(TooBig) a 1\n\
+5 1 Other => Err(Failed(Other))  1\n\
+5 2 Other => Err(Failed(Other)) ab 2\n\
+5 3 Other => Err(Failed(Other)) abcd 3\n\
+5 4 Other => Err(Failed(Other)) abcde 4\n\
+4 3 Other => Err(Failed(Other)) abcd 3\n\
+5 2 Interrupted => Ok(()) abcde 5";
+
+// The write that fails and how, the piece, and what writing gives, with the bytes and the calls.
+const WRITES: &str = "0 Other abcde => Ok(()) abcde 3\n\
+1 Other  => Ok(())  0\n\
+1 Other abcde => Err(Failed)  1\n\
+2 Other abcde => Err(Failed) ab 2\n\
+3 Other abcde => Err(Failed) abcd 3\n\
+2 - abcde => Err(Failed) ab 2\n\
+2 Interrupted abcde => Ok(()) abcde 4";
+
+fn kind_of(word: &str) -> Option<ErrorKind> {
+    match word {
+        "Other" => Some(ErrorKind::Other),
+        "Interrupted" => Some(ErrorKind::Interrupted),
+        _ => None,
+    }
+}
+
+fn read_slowly(
+    alloc: Global,
+    max: u32,
+    failing: u64,
+    kind: Option<ErrorKind>,
+) -> Result<String, AllocError> {
+    let (mut into, mut written, mut calls) = (Vec::new(alloc), Vec::new(alloc), 0);
+    let reader = Slow {
+        rest: b"abcde",
+        written: &mut written,
+        calls: &mut calls,
+        failing,
+        kind,
+    };
+    let got = read_whole(reader, u64::from(max), &mut into);
+    let bytes = String::from_utf8_lossy(alloc, into.as_slice())?;
+    format!(in alloc; "{got:?} {bytes} {calls}")
+}
+
+fn write_slowly(
+    alloc: Global,
+    piece: &str,
+    failing: u64,
+    kind: Option<ErrorKind>,
+) -> Result<String, AllocError> {
+    let (mut written, mut calls) = (Vec::new(alloc), 0);
+    let mut writer = Slow {
+        rest: b"",
+        written: &mut written,
+        calls: &mut calls,
+        failing,
+        kind,
+    };
+    let got = write_whole(&mut writer, piece.as_bytes());
+    drop(writer);
+    let bytes = String::from_utf8_lossy(alloc, written.as_slice())?;
+    format!(in alloc; "{got:?} {bytes} {calls}")
+}
+
+fn read_at(alloc: Global, fault: &str) -> Option<String> {
+    let (max, call) = fault.split_once(' ')?;
+    let (failing, kind) = call.split_once(' ')?;
+    let max = max.parse().ok()?;
+    let failing = failing.parse().ok()?;
+    read_slowly(alloc, max, failing, kind_of(kind)).ok()
+}
+
+fn read_row_holds(alloc: Global, row: &str) -> bool {
+    let Some((fault, want)) = row.split_once(" => ") else {
+        return false;
+    };
+    is_shown(read_at(alloc, fault), want)
+}
+
+fn write_at(alloc: Global, fault: &str) -> Option<String> {
+    let (failing, rest) = fault.split_once(' ')?;
+    let (kind, piece) = rest.split_once(' ')?;
+    let failing = failing.parse().ok()?;
+    write_slowly(alloc, piece, failing, kind_of(kind)).ok()
+}
+
+fn write_row_holds(alloc: Global, row: &str) -> bool {
+    let Some((fault, want)) = row.split_once(" => ") else {
+        return false;
+    };
+    is_shown(write_at(alloc, fault), want)
+}
+
 // Each read failed in turn, and one that a signal stopped.
 #[test]
-fn reads_fail_in_turn(rt: HostRuntime) -> Result<(), AllocError> {
+fn reads_fail_in_turn(rt: HostRuntime) {
     let alloc = rt.alloc();
-    let failed = Err(ReadError::Failed(ErrorKind::Other));
-    for (max, failing, kind, answer, bytes, calls) in [
-        (5, 0, ErrorKind::Other, Ok(()), "abcde", 4),
-        (6, 0, ErrorKind::Other, Ok(()), "abcde", 4),
-        (4, 0, ErrorKind::Other, Err(ReadError::TooBig), "abcde", 3),
-        (0, 0, ErrorKind::Other, Err(ReadError::TooBig), "a", 1),
-        (5, 1, ErrorKind::Other, failed, "", 1),
-        (5, 2, ErrorKind::Other, failed, "ab", 2),
-        (5, 3, ErrorKind::Other, failed, "abcd", 3),
-        (5, 4, ErrorKind::Other, failed, "abcde", 4),
-        (4, 3, ErrorKind::Other, failed, "abcd", 3),
-        (5, 2, ErrorKind::Interrupted, Ok(()), "abcde", 5),
-    ] {
-        let (mut into, mut written, mut count) = (Vec::new(alloc), Vec::new(alloc), 0);
-        let reader = Slow {
-            rest: b"abcde",
-            written: &mut written,
-            calls: &mut count,
-            failing,
-            kind: Some(kind),
-        };
-        let got = read_whole(reader, max, &mut into);
-        assert!(rt;
-            got == answer && count == calls,
-            "read {failing} of at most {max}"
-        );
-        assert!(rt; into.as_slice() == bytes.as_bytes(), "{bytes:?}");
+    for row in READS.lines() {
+        assert!(rt; read_row_holds(alloc, row), "read {row}");
     }
-    Ok(())
 }
 
 // Each write failed in turn, one that takes nothing, and one that a signal stopped.
 #[test]
-fn writes_fail_in_turn(rt: HostRuntime) -> Result<(), AllocError> {
+fn writes_fail_in_turn(rt: HostRuntime) {
     let alloc = rt.alloc();
-    let failed = Err(PutError::Failed);
-    let other = Some(ErrorKind::Other);
-    for (piece, failing, kind, answer, bytes, calls) in [
-        ("abcde", 0, other, Ok(()), "abcde", 3),
-        ("", 1, other, Ok(()), "", 0),
-        ("abcde", 1, other, failed, "", 1),
-        ("abcde", 2, other, failed, "ab", 2),
-        ("abcde", 3, other, failed, "abcd", 3),
-        ("abcde", 2, None, failed, "ab", 2),
-        ("abcde", 2, Some(ErrorKind::Interrupted), Ok(()), "abcde", 4),
-    ] {
-        let (mut written, mut count) = (Vec::new(alloc), 0);
-        let mut writer = Slow {
-            rest: b"",
-            written: &mut written,
-            calls: &mut count,
-            failing,
-            kind,
-        };
-        let got = write_whole(&mut writer, piece.as_bytes());
-        drop(writer);
-        assert!(rt;
-            got == answer && count == calls,
-            "write {failing} of {piece:?}"
-        );
-        assert!(rt; written.as_slice() == bytes.as_bytes(), "{bytes:?}");
+    for row in WRITES.lines() {
+        assert!(rt; write_row_holds(alloc, row), "write {row}");
     }
-    Ok(())
+}
+
+fn path_is(alloc: Global, place: Place, want: &str) -> bool {
+    match path_in(alloc, "lib", "m/n", place, "s/x.dat") {
+        Ok(path) => path.as_str() == want,
+        Err(_) => false,
+    }
 }
 
 #[test]
-fn paths_begin_with_their_folder(rt: HostRuntime) -> Result<(), AllocError> {
-    for (place, path) in [
-        (Place::Work, "s/x.dat"),
-        (Place::Model, "m/n/s/x.dat"),
-        (Place::Parts, "lib/parts/s/x.dat"),
-        (Place::P, "lib/p/s/x.dat"),
-    ] {
-        let got = path_in(rt.alloc(), "lib", "m/n", place, "s/x.dat")?;
-        assert!(rt; got.as_str() == path, "{path}");
-    }
-    Ok(())
+fn paths_begin_with_their_folder(rt: HostRuntime) {
+    let alloc = rt.alloc();
+    assert!(rt; path_is(alloc, Place::Work, "s/x.dat"));
+    assert!(rt; path_is(alloc, Place::Model, "m/n/s/x.dat"));
+    assert!(rt; path_is(alloc, Place::Parts, "lib/parts/s/x.dat"));
+    assert!(rt; path_is(alloc, Place::P, "lib/p/s/x.dat"));
 }
