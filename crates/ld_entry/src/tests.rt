@@ -27,6 +27,9 @@ const ABOVE: Source = Source {
     line: 3,
 };
 
+// A function that moves an entry names its points, so that the prover knows of them.
+const NO_POINTS: [Point; 0] = [];
+
 // What a reference passes to points and colours, or what a line draws.
 #[derive(Clone, Copy)]
 enum Content {
@@ -87,67 +90,63 @@ fn entry_of(alloc: Global, line: &str, colour: Colour) -> Result<Entry, Fail> {
     })
 }
 
-#[test]
-fn points_and_colours_below_a_reference(rt: HostRuntime) -> Result<(), Fail> {
-    let alloc = rt.alloc();
-    // A reference, a line in the file that it refers to, and the line where the reference puts it.
-    for (outer, inner, carried) in [
-        (
-            "1 16 0 0 0 .333333 0 0 0 1 0 0 0 1 b.ldr",
-            "2 24 1.5 0 0 0 0 0",
-            "2 24 .5 0 0 0 0 0",
-        ),
-        (
-            "1 16 0 0 0 3 0 0 0 1 0 0 0 1 a.ldr",
-            "2 24 .5 0 0 0 0 0",
-            "2 24 1.5 0 0 0 0 0",
-        ),
-        (
-            "1 4 1 2 3 0 0 0 0 0 0 0 0 0 b.ldr",
-            "3 16 5 0 0 0 5 0 0 0 5",
-            "3 16 1 2 3 1 2 3 1 2 3",
-        ),
-        (
-            "1 16 1000000 0 0 1 0 0 0 1 0 0 0 1 s.ldr",
-            "2 16 0 0 0 -1 0 0",
-            "2 16 1000000 0 0 999999 0 0",
-        ),
-        (
-            "1 16 0 1 0 -1 0 0 0 1 0 0 0 1 s.ldr",
-            "4 16 0 0 0 1 0 0 1 1 0 0 1 0",
-            "4 16 0 1 0 -1 1 0 -1 2 0 0 2 0",
-        ),
-        (
-            "1 16 0 0 0 0 1 0 1 0 0 0 0 1 s.ldr",
-            "5 16 1 2 3 4 5 6 7 8 9 10 11 12",
-            "5 16 2 1 3 5 4 6 8 7 9 11 10 12",
-        ),
-    ] {
-        let outer = outer_of(alloc, outer, NEUTRAL)?;
-        let inner = entry_of(alloc, inner, Colour::Edge)?;
-        let colour = if outer.colour == Colour::Main {
-            Colour::Edge
-        } else {
-            Colour::EdgeOf(4)
-        };
-        assert_eq!(rt;
-            carry(&outer, &inner),
-            Ok(entry_of(alloc, carried, colour)?)
-        );
-    }
-    let outer = outer_of(alloc, "1 16 1000000 0 0 1 0 0 0 1 0 0 0 1 s.ldr", NEUTRAL)?;
-    let inner = entry_of(alloc, "3 16 0 0 0 1 0 0 0 1 0", Colour::Main)?;
+// A reference, a line in the file that it refers to, and the line where the reference puts it.
+const CARRIED: &str =
+    "1 16 0 0 0 .333333 0 0 0 1 0 0 0 1 b.ldr : 2 24 1.5 0 0 0 0 0 => 2 24 .5 0 0 0 0 0
+1 16 0 0 0 3 0 0 0 1 0 0 0 1 a.ldr : 2 24 .5 0 0 0 0 0 => 2 24 1.5 0 0 0 0 0
+1 4 1 2 3 0 0 0 0 0 0 0 0 0 b.ldr : 3 16 5 0 0 0 5 0 0 0 5 => 3 16 1 2 3 1 2 3 1 2 3
+1 16 1000000 0 0 1 0 0 0 1 0 0 0 1 s.ldr : 2 16 0 0 0 -1 0 0 => 2 16 1000000 0 0 999999 0 0
+1 16 0 1 0 -1 0 0 0 1 0 0 0 1 s.ldr : 4 16 0 0 0 1 0 0 1 1 0 0 1 0 => 4 16 0 1 0 -1 1 0 -1 2 0 0 2 0
+1 16 0 0 0 0 1 0 1 0 0 0 0 1 s.ldr : 5 16 1 2 3 4 5 6 7 8 9 10 11 12 => 5 16 2 1 3 5 4 6 8 7 9 11 10 12";
+
+// Whether the reference carries the inner line's entry to that of the other line, where both are drawn
+// in colour 24.
+fn is_carried(alloc: Global, outer: &str, inner: &str, carried: &str) -> Result<bool, Fail> {
+    let outer = outer_of(alloc, outer, NEUTRAL)?;
+    let inner = entry_of(alloc, inner, Colour::Edge)?;
+    let colour = if outer.colour == Colour::Main {
+        Colour::Edge
+    } else {
+        Colour::EdgeOf(4)
+    };
+    let carried = entry_of(alloc, carried, colour)?;
+    Ok(carry(&outer, &inner) == Ok(carried))
+}
+
+fn is_row_carried(alloc: Global, row: &str) -> Result<bool, Fail> {
+    let (row, carried) = row.split_once(" => ").ok_or("a row without =>")?;
+    let (outer, inner) = row.split_once(" : ").ok_or("a row without :")?;
+    is_carried(alloc, outer, inner, carried)
+}
+
+fn is_out_of_range(alloc: Global, outer: &Outer, inner: &str) -> Result<bool, Fail> {
+    let _: [Point; 0] = NO_POINTS;
+    let inner = entry_of(alloc, inner, Colour::Main)?;
     let range = Fault {
         what: What::Range,
         source: ABOVE,
     };
-    assert_eq!(rt; carry(&outer, &inner), Err(range));
+    Ok(carry(outer, &inner) == Err(range))
+}
+
+fn is_kept(outer: &Outer, entry: &Entry) -> bool {
+    carry(outer, entry) == Ok(*entry)
+}
+
+#[test]
+fn points_and_colours_below_a_reference(rt: HostRuntime) -> Result<(), Fail> {
+    let alloc = rt.alloc();
+    for row in CARRIED.lines() {
+        assert!(rt; is_row_carried(alloc, row)?, "{row}");
+    }
+    let outer = outer_of(alloc, "1 16 1000000 0 0 1 0 0 0 1 0 0 0 1 s.ldr", NEUTRAL)?;
+    assert!(rt; is_out_of_range(alloc, &outer, "3 16 0 0 0 1 0 0 0 1 0")?);
     let part = Entry::Part {
         file: TextId(2),
         colour: Colour::Main,
         source: HERE,
     };
-    assert_eq!(rt; carry(&outer, &part), Ok(part));
+    assert!(rt; is_kept(&outer, &part));
     assert!(rt; size_of::<Entry>() <= 120);
     Ok(())
 }
