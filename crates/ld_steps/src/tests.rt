@@ -80,16 +80,23 @@ fn shown(alloc: Global, marks: &[StepMark]) -> Result<Vec<u8>, AllocError> {
     Ok(text)
 }
 
+fn steps_text(alloc: Global, text: &str) -> Result<Vec<u8>, Fail> {
+    let lines = lines_of(alloc, text)?;
+    let marks = marked(alloc, lines.as_slice())?;
+    Ok(shown(alloc, marks.as_slice())?)
+}
+
+fn is_cut(alloc: Global, row: &str) -> Result<bool, Fail> {
+    let (text, want) = row.split_once(" => ").ok_or("a row without =>")?;
+    let got = steps_text(alloc, text)?;
+    Ok(got.as_slice() == want.as_bytes())
+}
+
 #[test]
 fn texts_cut_into_steps(rt: HostRuntime) -> Result<(), Fail> {
     let alloc = rt.alloc();
     for row in TEXTS.lines() {
-        let (text, want) = row.split_once(" => ").ok_or("a row without =>")?;
-        let lines = lines_of(alloc, text)?;
-        let marks = marked(alloc, lines.as_slice())?;
-        let got = shown(alloc, marks.as_slice())?;
-        let got = String::from_utf8_lossy(alloc, got.as_slice())?;
-        assert_eq!(rt; got.as_str(), want, "{text}");
+        assert!(rt; is_cut(alloc, row)?, "{row}");
     }
     Ok(())
 }
