@@ -135,11 +135,15 @@ fn file_of_row(alloc: Global, row: &str) -> Result<FileId, Fail> {
     })
 }
 
+fn tell(alloc: Global, finding: &Finding, into: &mut String) -> Result<(), AllocError> {
+    let before = if into.is_empty() { "" } else { ", " };
+    into.push_str(format!(in alloc; "{before}{} {}", finding.line, finding.rule)?.as_str())
+}
+
 fn told(alloc: Global, findings: &[Finding]) -> Result<String, AllocError> {
     let mut text = String::new(alloc);
     for finding in findings {
-        let before = if text.is_empty() { "" } else { ", " };
-        text.push_str(format!(in alloc; "{before}{} {}", finding.line, finding.rule)?.as_str())?;
+        tell(alloc, finding, &mut text)?;
     }
     Ok(text)
 }
