@@ -57,6 +57,12 @@ pub words_of_view : (view : List Turn) → (length view == 0) ≡ false → flat
 words_of_view [] some = absurd (true≢false some)
 words_of_view (turn ∷ turns) some = words-of-turns (turn ∷ turns)
 
+-- the line of a part in a parts list
+pub count_line : (old count colour file : List ℕ)
+    → (((((old ++ count) ++ codes " ") ++ colour) ++ codes " ") ++ file) ++ codes "\n"
+    ≡ old ++ line_text (count ∷ colour ∷ file ∷ [])
+count_line old count colour file = simp append_assoc
+
 -- the line of a fault
 fault-line : (old fault what source : List ℕ) (names : List (List ℕ))
     → ((((old ++ (fault ++ codes " ")) ++ (what ++ codes " ")) ++ source) ++ flat_map (λ word. codes " " ++ word) names) ++ codes "\n"

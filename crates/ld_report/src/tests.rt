@@ -35,16 +35,28 @@ d3355443|nocert clip ccw|0|2|2 24 0 0 0 1 0 0 => line 0x2333333 #333333 nocert c
 e2|nocert clip ccw|2|30|2 => part e2 - p/stud.dat at p/stud.dat:30
 m|nocert clip ccw|0|1|9 => part 16 -  at model/my car.ldr:1";
 
-// A fault, and its printed line.
-const FAULTS: &str = "missing|0|1 => fault missing model/my car.ldr:1 s/gone.dat
-cycle|0|1 => fault cycle model/my car.ldr:1 s/gone.dat
-unnamed|0|2 => fault unnamed model/my car.ldr:2
-toodeep|0|1 => fault toodeep model/my car.ldr:1
-range|1|2 => fault range parts/3001.dat:2
-malformed|0|3 => fault malformed model/my car.ldr:3
-toomany|2|4 => fault toomany p/stud.dat:4
-missing|0|2 => fault missing model/my car.ldr:2
-cycle|0|4 => fault cycle model/my car.ldr:4";
+// Faults; and the text and the line of each, and its printed line.
+const WHATS: [What; 9] = [
+    What::Missing,
+    What::Cycle,
+    What::Unnamed,
+    What::TooDeep,
+    What::Range,
+    What::Malformed,
+    What::TooMany,
+    What::Missing,
+    What::Cycle,
+];
+
+const FAULTS: &str = "0|1 => fault missing model/my car.ldr:1 s/gone.dat
+0|1 => fault cycle model/my car.ldr:1 s/gone.dat
+0|2 => fault unnamed model/my car.ldr:2
+0|1 => fault toodeep model/my car.ldr:1
+1|2 => fault range parts/3001.dat:2
+0|3 => fault malformed model/my car.ldr:3
+2|4 => fault toomany p/stud.dat:4
+0|2 => fault missing model/my car.ldr:2
+0|4 => fault cycle model/my car.ldr:4";
 
 // Parts in their colours, or what is drawn; and the printed parts list, whose lines end at `/ `.
 const PARTS: &str =
@@ -81,9 +93,9 @@ fn learn(
     if texts.id(&file).is_some() {
         return Err("known already".into());
     }
-    let ready = texts
-        .prepare_file(&file, Some(lines_of(alloc, bytes)?))
-        .map_err(|_| "not learnt")?;
+    let Ok(ready) = texts.prepare_file(&file, Some(lines_of(alloc, bytes)?)) else {
+        return Err("not learnt".into());
+    };
     let _ = texts.commit(ready);
     Ok(())
 }
@@ -148,8 +160,17 @@ fn entry_of(alloc: Global, row: &str) -> Result<Entry, Fail> {
     let (culling, row) = row.split_once("|").ok_or("no culling")?;
     let (text, row) = row.split_once("|").ok_or("no text")?;
     let (line, what) = row.split_once("|").ok_or("no line")?;
-    let colour = colour_of(word)?;
     let source = source_of(text, line)?;
+    entry_at(alloc, culling, colour_of(word)?, source, what)
+}
+
+fn entry_at(
+    alloc: Global,
+    culling: &str,
+    colour: Colour,
+    source: Source,
+    what: &str,
+) -> Result<Entry, Fail> {
     let winding = if culling.ends_with(" cw") {
         Winding::Cw
     } else {
@@ -174,58 +195,6 @@ fn entry_of(alloc: Global, row: &str) -> Result<Entry, Fail> {
     })
 }
 
-#[test]
-fn entries_are_printed(rt: HostRuntime) -> Result<(), Fail> {
-    let alloc = rt.alloc();
-    let texts = known(alloc)?;
-    let table = Table::read(alloc, COLOURS).map_err(|_| "no table")?;
-    let mut printed = Vec::new(alloc);
-    let mut wanted = Vec::new(alloc);
-    let _: [Point; 0] = NO_POINTS;
-    for row in ENTRIES.lines() {
-        let (entry, want) = row.split_once(" => ").ok_or("a row without =>")?;
-        print_entry(&texts, &table, &entry_of(alloc, entry)?, &mut printed)?;
-        wanted.extend_from_slice(want.as_bytes())?;
-        wanted.push(b'\n')?;
-    }
-    assert_eq!(rt; printed.as_slice(), wanted.as_slice());
-    Ok(())
-}
-
-fn what_of(word: &str) -> What {
-    match word {
-        "missing" => What::Missing,
-        "unnamed" => What::Unnamed,
-        "cycle" => What::Cycle,
-        "toodeep" => What::TooDeep,
-        "range" => What::Range,
-        "malformed" => What::Malformed,
-        _ => What::TooMany,
-    }
-}
-
-#[test]
-fn faults_are_printed(rt: HostRuntime) -> Result<(), Fail> {
-    let alloc = rt.alloc();
-    let texts = known(alloc)?;
-    let mut printed = Vec::new(alloc);
-    let mut wanted = Vec::new(alloc);
-    for row in FAULTS.lines() {
-        let (fault, want) = row.split_once(" => ").ok_or("a row without =>")?;
-        let (what, source) = fault.split_once("|").ok_or("no text")?;
-        let (text, line) = source.split_once("|").ok_or("no line")?;
-        let fault = Fault {
-            what: what_of(what),
-            source: source_of(text, line)?,
-        };
-        print_fault(&texts, &fault, &mut printed)?;
-        wanted.extend_from_slice(want.as_bytes())?;
-        wanted.push(b'\n')?;
-    }
-    assert_eq!(rt; printed.as_slice(), wanted.as_slice());
-    Ok(())
-}
-
 // The lines of a row, each ended by a line feed.
 fn append_lines(row: &str, into: &mut Vec<u8>) -> Result<(), Fail> {
     for line in row.split("/ ") {
@@ -237,55 +206,140 @@ fn append_lines(row: &str, into: &mut Vec<u8>) -> Result<(), Fail> {
     Ok(())
 }
 
-fn used(alloc: Global, word: &str) -> Result<Entry, Fail> {
-    match word.split_once(":") {
-        Some((file, colour)) => Ok(Entry::Part {
-            file: TextId(file.parse::<u32>()?),
-            colour: colour_of(colour)?,
-            source: source_of("0", "1")?,
-        }),
-        None => entry_of(alloc, "4|cert clip ccw|1|1|2 24 0 0 0 1 0 0"),
+fn table_of(alloc: Global) -> Result<Table, Fail> {
+    match Table::read(alloc, COLOURS) {
+        Ok(table) => Ok(table),
+        Err(_) => Err("no table".into()),
     }
+}
+
+fn append_entry_row(
+    alloc: Global,
+    texts: &Texts,
+    table: &Table,
+    row: &str,
+    printed: &mut Vec<u8>,
+    wanted: &mut Vec<u8>,
+) -> Result<(), Fail> {
+    let _: [Point; 0] = NO_POINTS;
+    let (entry, want) = row.split_once(" => ").ok_or("a row without =>")?;
+    print_entry(texts, table, &entry_of(alloc, entry)?, printed)?;
+    append_lines(want, wanted)
+}
+
+#[test]
+fn entries_are_printed(rt: HostRuntime) -> Result<(), Fail> {
+    let alloc = rt.alloc();
+    let texts = known(alloc)?;
+    let table = table_of(alloc)?;
+    let mut printed = Vec::new(alloc);
+    let mut wanted = Vec::new(alloc);
+    for row in ENTRIES.lines() {
+        append_entry_row(alloc, &texts, &table, row, &mut printed, &mut wanted)?;
+    }
+    assert_eq!(rt; printed.as_slice(), wanted.as_slice());
+    Ok(())
+}
+
+fn append_fault_row(
+    texts: &Texts,
+    what: What,
+    row: Option<&str>,
+    printed: &mut Vec<u8>,
+    wanted: &mut Vec<u8>,
+) -> Result<(), Fail> {
+    let row = row.ok_or("too few rows")?;
+    let (source, want) = row.split_once(" => ").ok_or("a row without =>")?;
+    let (text, line) = source.split_once("|").ok_or("no line")?;
+    let source = source_of(text, line)?;
+    print_fault(texts, &Fault { what, source }, printed)?;
+    append_lines(want, wanted)
+}
+
+#[test]
+fn faults_are_printed(rt: HostRuntime) -> Result<(), Fail> {
+    let alloc = rt.alloc();
+    let texts = known(alloc)?;
+    let mut printed = Vec::new(alloc);
+    let mut wanted = Vec::new(alloc);
+    let mut rows = FAULTS.lines();
+    for what in WHATS {
+        append_fault_row(&texts, what, rows.next(), &mut printed, &mut wanted)?;
+    }
+    assert!(rt; rows.next().is_none());
+    assert_eq!(rt; printed.as_slice(), wanted.as_slice());
+    Ok(())
+}
+
+fn used(alloc: Global, word: &str) -> Result<Entry, Fail> {
+    let Some((file, colour)) = word.split_once(":") else {
+        return entry_of(alloc, "4|cert clip ccw|1|1|2 24 0 0 0 1 0 0");
+    };
+    let row = format!(in alloc; "{colour}|nocert clip ccw|0|1|{file}")?;
+    entry_of(alloc, row.as_str())
+}
+
+fn uses_of(alloc: Global, uses: &str) -> Result<Vec<Entry>, Fail> {
+    let _: [Point; 0] = NO_POINTS;
+    let mut entries = Vec::new(alloc);
+    for word in uses.split(" ") {
+        entries.push(used(alloc, word)?)?;
+    }
+    Ok(entries)
+}
+
+fn printed_parts(alloc: Global, texts: &Texts, uses: &str) -> Result<Vec<u8>, Fail> {
+    let _: [Point; 0] = NO_POINTS;
+    let entries = uses_of(alloc, uses)?;
+    if entries.len() > 99 {
+        return Err("too many uses".into());
+    }
+    let parts = parts_list(alloc, entries.as_slice())?;
+    let mut printed = Vec::new(alloc);
+    print_parts(texts, &parts, &mut printed)?;
+    Ok(printed)
+}
+
+fn parts_hold(alloc: Global, texts: &Texts, row: &str) -> Result<bool, Fail> {
+    let (uses, want) = row.split_once(" => ").ok_or("a row without =>")?;
+    let printed = printed_parts(alloc, texts, uses)?;
+    let mut wanted = Vec::new(alloc);
+    append_lines(want, &mut wanted)?;
+    Ok(printed.as_slice() == wanted.as_slice())
 }
 
 #[test]
 fn parts_are_counted_and_printed(rt: HostRuntime) -> Result<(), Fail> {
     let alloc = rt.alloc();
     let texts = known(alloc)?;
-    let _: [Point; 0] = NO_POINTS;
     for row in PARTS.lines() {
-        let (uses, want) = row.split_once(" => ").ok_or("a row without =>")?;
-        let mut entries = Vec::new(alloc);
-        for word in uses.split(" ") {
-            entries.push(used(alloc, word)?)?;
-        }
-        assert!(rt; entries.len() < 100);
-        let parts = parts_list(alloc, entries.as_slice())?;
-        let mut printed = Vec::new(alloc);
-        print_parts(&texts, &parts, &mut printed)?;
-        let mut wanted = Vec::new(alloc);
-        append_lines(want, &mut wanted)?;
-        assert_eq!(rt; printed.as_slice(), wanted.as_slice(), "{uses}");
+        assert!(rt; parts_hold(alloc, &texts, row)?, "{row}");
     }
     Ok(())
 }
 
-fn turn_of(line: Line) -> Option<Turn> {
-    match line {
-        Line::Rot(RotWord::Abs(angles)) => Some(Turn {
+fn turn_of(word: RotWord) -> Option<Turn> {
+    match word {
+        RotWord::Abs(angles) => Some(Turn {
             absolute: true,
             angles,
         }),
-        Line::Rot(RotWord::Rel(angles) | RotWord::Add(angles)) => Some(Turn {
+        RotWord::Rel(angles) | RotWord::Add(angles) => Some(Turn {
             absolute: false,
             angles,
         }),
+        RotWord::End => None,
+    }
+}
+
+fn turn_in(line: Line) -> Option<Turn> {
+    match line {
+        Line::Rot(word) => turn_of(word),
         Line::Ref { name, .. } => {
             drop(name);
             None
         }
-        Line::Rot(RotWord::End)
-        | Line::Blank
+        Line::Blank
         | Line::Comment
         | Line::Org(_)
         | Line::Bfc(_)
@@ -296,20 +350,43 @@ fn turn_of(line: Line) -> Option<Turn> {
     }
 }
 
-fn step_of(alloc: Global, row: &str) -> Result<StepPart, Fail> {
-    let (range, turns) = row.split_once("|").ok_or("no turns")?;
-    let (first, end) = range.split_once("..").ok_or("no range")?;
+fn view_of(alloc: Global, lines: &str) -> Result<List<Turn>, Fail> {
     let mut view = List::new(alloc);
-    for line in turns.split("; ") {
-        if let Some(turn) = turn_of(read_line(alloc, line.as_bytes())?) {
+    for line in lines.split("; ") {
+        if let Some(turn) = turn_in(read_line(alloc, line.as_bytes())?) {
             view.push(turn)?;
         }
     }
-    Ok(StepPart {
-        first: first.parse::<u32>()?,
-        end: end.parse::<u32>()?,
-        view,
-    })
+    Ok(view)
+}
+
+fn step_of(alloc: Global, row: &str) -> Result<StepPart, Fail> {
+    let (range, turns) = row.split_once("|").ok_or("no turns")?;
+    let (first, end) = range.split_once("..").ok_or("no range")?;
+    let first = first.parse::<u32>()?;
+    let end = end.parse::<u32>()?;
+    let view = view_of(alloc, turns)?;
+    Ok(StepPart { first, end, view })
+}
+
+fn stepped(alloc: Global) -> Result<Vec<Entry>, Fail> {
+    let _: [Point; 0] = NO_POINTS;
+    let mut entries = Vec::new(alloc);
+    for row in STEPPED.lines() {
+        entries.push(entry_of(alloc, row)?)?;
+    }
+    Ok(entries)
+}
+
+// The steps, and the lines that are wanted of them.
+fn steps_of(alloc: Global, wanted: &mut Vec<u8>) -> Result<Vec<StepPart>, Fail> {
+    let mut steps = Vec::new(alloc);
+    for row in STEPS.lines() {
+        let (step, want) = row.split_once(" => ").ok_or("a row without =>")?;
+        steps.push(step_of(alloc, step)?)?;
+        append_lines(want, wanted)?;
+    }
+    Ok(steps)
 }
 
 #[test]
@@ -317,18 +394,9 @@ fn steps_are_printed(rt: HostRuntime) -> Result<(), Fail> {
     let alloc = rt.alloc();
     let texts = known(alloc)?;
     let table = Table::empty(alloc);
-    let _: [Point; 0] = NO_POINTS;
-    let mut entries = Vec::new(alloc);
-    for row in STEPPED.lines() {
-        entries.push(entry_of(alloc, row)?)?;
-    }
-    let mut steps = Vec::new(alloc);
+    let entries = stepped(alloc)?;
     let mut wanted = Vec::new(alloc);
-    for row in STEPS.lines() {
-        let (step, want) = row.split_once(" => ").ok_or("a row without =>")?;
-        steps.push(step_of(alloc, step)?)?;
-        append_lines(want, &mut wanted)?;
-    }
+    let steps = steps_of(alloc, &mut wanted)?;
     let mut printed = Vec::new(alloc);
     print_steps(
         &texts,

@@ -5,6 +5,7 @@ use Rattle.ld_colour.specs.Table.{counting, rgb_in}
 use Rattle.ld_texts.specs.Known.{file_at}
 use Rattle.ld_report.specs.Entries.{entry_text}
 use Rattle.ld_report.specs.Pieces.{certified_text, clip_text, colour_text, kind_text, numbered_text, point_text, rgb_text, source_text, winding_text}
+use Rattle.ld_report.proofs.Extending.{appended}
 use Rattle.ld_report.proofs.Lines.{drawn_line, part_line}
 use Rattle.ld_report.proofs.entry.append_entry.Goals as goal
 
@@ -34,3 +35,9 @@ returns-in_ok-end_line-in-Part-clause-ok c =
     let file = numbered_text (file_at c.args.texts.now.known d.file.0) in
     let line = part_line old (colour_text d.colour) (rgb_text (rgb_in (counting c.args.table.now) d.colour)) file source in
     rw d.is (c.in_ok-end_line-in-Part.ensures.ok ∙ ap (λ text. text ++ (source ++ codes "\n")) (c.in_ok-print_part-in-Part.ensures.ok ∙ ap (λ text. text ++ (codes " " ++ file ++ codes " at ")) c.in_ok-print_head-in-Part.ensures.ok) ∙ line)
+
+pub returns-in_ok-end_line-in-Drawn-clause-keeps : goal.returns-in_ok-end_line-in-Drawn-clause-keeps
+returns-in_ok-end_line-in-Drawn-clause-keeps c = appended _ _ _ (returns-in_ok-end_line-in-Drawn-clause-ok c)
+
+pub returns-in_ok-end_line-in-Part-clause-keeps : goal.returns-in_ok-end_line-in-Part-clause-keeps
+returns-in_ok-end_line-in-Part-clause-keeps c = appended _ _ _ (returns-in_ok-end_line-in-Part-clause-ok c)

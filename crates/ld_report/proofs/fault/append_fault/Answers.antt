@@ -3,6 +3,7 @@ use Rattle.std.specs.List.{flat_map}
 use Rattle.ld_texts.specs.Known.{line_at}
 use Rattle.ld_report.specs.Entries.{fault_text, named_words, what_text}
 use Rattle.ld_report.specs.Pieces.{source_text}
+use Rattle.ld_report.proofs.Extending.{appended}
 use Rattle.ld_report.proofs.Lines.{fault_line}
 use Rattle.ld_report.proofs.fault.append_fault.Goals as goal
 
@@ -19,3 +20,6 @@ returns-clause-ok c =
     let named : c.print_named.new.into.items ≡ c.print_source.new.into.items ++ flat_map (λ word. codes " " ++ word) names = c.in_ok-print_named.ensures.ok in
     let ended : c.push.new.self.items ≡ c.print_named.new.into.items ++ codes "\n" = c.in_ok-push.ensures.items in
     ended ∙ ap (λ text. text ++ codes "\n") (named ∙ ap (λ text. text ++ flat_map (λ word. codes " " ++ word) names) (placed ∙ ap (λ text. text ++ source_text known fault.source) (told ∙ ap (λ text. text ++ (what_text fault.what ++ codes " ")) begun))) ∙ fault_line old (what_text fault.what) (source_text known fault.source) names
+
+pub returns-clause-keeps : goal.returns-clause-keeps
+returns-clause-keeps c = appended _ _ _ (returns-clause-ok c)
