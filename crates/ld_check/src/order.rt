@@ -1,6 +1,5 @@
 // The order of a part's header lines (Official Library Header Specification).
 ghost use Rattle.std.specs.Prelude.{◌≡◌};
-ghost use Rattle.std.specs.Option.{option_map};
 ghost use Rattle.std.specs.Ordering.{nat_cmp};
 ghost use Rattle.ld_line.specs.Field.{fields};
 ghost use Rattle.ld_line.specs.Reading.{line_of};

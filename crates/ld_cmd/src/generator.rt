@@ -1,4 +1,4 @@
-ghost use Rattle.std.specs.Prelude.{◌≡◌, ◌≤◌, ◌++◌, ◌*◌, ◌/◌, ◌%◌, ◌+◌, IfOk, OnOk, codes, decimal, length};
+ghost use Rattle.std.specs.Prelude.{◌≡◌, ◌≤◌, ◌++◌, ◌*◌, ◌/◌, ◌%◌, ◌+◌, IfOk, OnOk, length};
 ghost use Rattle.ld_cmd.specs.Generator.{brick_lines, generated, number_line, reference, step_behind, summary_text};
 
 use itoa::Buffer;

@@ -3,7 +3,7 @@ ghost use Rattle.std.specs.Prelude.{◌≡◌, ◌≢◌, ◌++◌, IfOk, codes,
 ghost use Rattle.ld_engine.specs.Learning.{TooBig};
 ghost use Rattle.ld_report.specs.Pieces.{file_text, folder_text};
 ghost use Rattle.ld_cmd.specs.Ending.{IsWhole};
-ghost use Rattle.ld_cmd.specs.Made.{Makes, Stops, output_of};
+ghost use Rattle.ld_cmd.specs.Made.{Stops};
 ghost use Rattle.ld_cmd.specs.Written.{one_piece, over_text, stop_text};
 ghost use Rattle.ld_cmd.specs.declared.status.Status.TheVariants.{Limit, Usage};
 

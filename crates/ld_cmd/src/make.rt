@@ -1,5 +1,5 @@
 // The output of the words.
-ghost use Rattle.std.specs.Prelude.{◌≡◌, ◌≢◌, ◌≤◌, Err, IsSome, List, ℕ, Option, Result, IfOk, IfSome, None, Some, codes, false, map, string_bytes};
+ghost use Rattle.std.specs.Prelude.{◌≡◌, ◌≤◌, Err, IsSome, List, ℕ, Option, Result, IfOk, IfSome, None, Some, codes, map, string_bytes};
 ghost use Rattle.ld_io.specs.Faults.{HasRisen};
 ghost use Rattle.ld_names.specs.Normal.{GivesName};
 ghost use Rattle.ld_names.specs.declared.name.NameError.{NameError};

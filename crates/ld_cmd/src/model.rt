@@ -1,6 +1,5 @@
 // A model: its texts are known, and its main model is asked for.
-ghost use Rattle.std.specs.Prelude.{◌≡◌, ◌≢◌, ◌≤◌, ◌++◌, ◌<◌, ◌^◌, [], ℕ, List, Ok, Err, IfOk, IfSome, Some, length, None};
-ghost use Rattle.std.specs.List.{flat_map};
+ghost use Rattle.std.specs.Prelude.{◌≡◌, ◌≢◌, ◌≤◌, ◌<◌, ◌^◌, [], Ok, Err, IfOk, IfSome, Some, length, None};
 ghost use Rattle.ld_io.specs.Faults.{HasRisen};
 ghost use Rattle.ld_mpd.specs.Blocks.{text_blocks, text_of};
 ghost use Rattle.ld_colour.specs.Table.{counting};
@@ -11,7 +10,7 @@ ghost use Rattle.ld_steps.specs.Laws.{AreSteps};
 ghost use Rattle.ld_words.specs.Shown.{options_shown};
 ghost use Rattle.ld_cmd.specs.Made.{Gives, Makes, queried_output};
 ghost use Rattle.ld_cmd.specs.Output.{answered_output, file_bytes, limits_of, loaded_by, main_file, main_output, model_output};
-ghost use Rattle.ld_cmd.specs.Written.{Output, shown_text};
+ghost use Rattle.ld_cmd.specs.Written.{Output};
 ghost use Rattle.ld_cmd.specs.Querying.{IsFirst, answer_queried};
 
 use crate::answer::{Form, make_answer};

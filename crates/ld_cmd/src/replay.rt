@@ -1,5 +1,5 @@
 // A script is answered: each reply is put as soon as it is made.
-ghost use Rattle.std.specs.Prelude.{◌≡◌, ◌≢◌, ◌≤◌, ◌∷◌, [], ℕ, List, Option, Err, IfErr, IfSome, OnOk, is_some};
+ghost use Rattle.std.specs.Prelude.{◌≡◌, ◌≢◌, ◌≤◌, ◌∷◌, ℕ, List, Option, Err, IfErr, IfSome, OnOk, is_some};
 ghost use Rattle.ld_io.specs.Faults.{HasRisen};
 ghost use Rattle.ld_script.specs.declared.command.Command.{Command};
 ghost use Rattle.ld_cmd.specs.Ending.{EndsAs, StandsInFront, Takes};

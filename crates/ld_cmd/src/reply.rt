@@ -1,5 +1,5 @@
 // The reply to one command of a script.
-ghost use Rattle.std.specs.Prelude.{◌≡◌, ◌≢◌, ◌≤◌, ◌++◌, ◌<◌, ◌^◌, Err, IfOk, IfSome, codes, decimal, length};
+ghost use Rattle.std.specs.Prelude.{◌≡◌, ◌≤◌, ◌++◌, ◌<◌, ◌^◌, Err, IfOk, IfSome, codes, decimal, length};
 ghost use Rattle.ld_io.specs.Faults.{HasRisen};
 ghost use Rattle.ld_colour.specs.Table.{counting};
 ghost use Rattle.ld_cmd.specs.Playing.{Replied, root_colour, edit_step, query_reply, query_step, refusal_text, root_of, shown_by, replied_to};

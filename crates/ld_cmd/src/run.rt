@@ -1,4 +1,4 @@
-ghost use Rattle.std.specs.Prelude.{◌≡◌, ◌≢◌, ◌≤◌, ◌∷◌, [], IfSome, None, Some, is_some, map, string_bytes};
+ghost use Rattle.std.specs.Prelude.{◌≡◌, ◌≤◌, ◌∷◌, [], IfSome, None, is_some, map, string_bytes};
 ghost use Rattle.ld_io.specs.Faults.{HasRisen};
 ghost use Rattle.ld_cmd.specs.Ending.{EndsAs, IsComplete, PutsOnce, StandsInFront, Takes, TakesNothing, UsageIsExact};
 ghost use Rattle.ld_cmd.specs.Output.{output};

@@ -1,12 +1,12 @@
 // Recursive expansion of the known texts: each text's entries are made below nothing, and carried
 // through the reference that enters it.
-ghost use Rattle.std.specs.Prelude.{◌≡◌, ◌≤◌, ◌==◌, ◌∷◌, [], ◌++◌, ℕ, IfOk, List, None, OnOk};
+ghost use Rattle.std.specs.Prelude.{◌≡◌, ◌==◌, ◌∷◌, [], ◌++◌, ℕ, IfOk, List, None, OnOk};
 ghost use Rattle.std.specs.List.{list_any};
 ghost use Rattle.ld_names.specs.declared.file.TextId.{TextId};
 ghost use Rattle.ld_colour.specs.Colour.{colour_of as colour_of_word};
 ghost use Rattle.ld_entry.specs.Carrying.{above_of};
 ghost use Rattle.ld_entry.specs.NumberedTexts.{known_texts};
-ghost use Rattle.ld_entry.specs.Outcomes.{all, found_outcomes, is_on_way, line_outcomes, outer_of, part_outcomes};
+ghost use Rattle.ld_entry.specs.Outcomes.{all, found_outcomes, line_outcomes, outer_of, part_outcomes};
 ghost use Rattle.ld_engine.specs.Gathering.{Extends, Gathers, alone, enter_with};
 ghost use Rattle.ld_engine.specs.Inside.Meeting.{AreMets, met_outcomes};
 

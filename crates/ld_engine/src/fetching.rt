@@ -1,5 +1,5 @@
 // Texts from a shelf.
-ghost use Rattle.std.specs.Prelude.{◌≡◌, ◌≤◌, ◌<◌, ◌^◌, IfOk, IfSome, Err, true};
+ghost use Rattle.std.specs.Prelude.{◌≡◌, ◌≤◌, ◌<◌, IfOk, IfSome, Err, true};
 ghost use Rattle.ld_io.specs.Faults.{HasRisen};
 ghost use Rattle.ld_engine.specs.Fetching.{BytesTold, TextTold};
 ghost use Rattle.ld_engine.specs.Learning.{bytes_on, is_clean, place_of, text_by};

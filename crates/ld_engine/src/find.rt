@@ -1,7 +1,6 @@
 // Which file a reference finds among the known texts.
-ghost use Rattle.std.specs.Prelude.{◌≡◌, None, map, option_and_then};
-ghost use Rattle.ld_names.specs.Standing.{find, find_among, known_map};
-ghost use Rattle.ld_engine.specs.Found.{sought, sought_among, sought_in};
+ghost use Rattle.std.specs.Prelude.{◌≡◌, None};
+ghost use Rattle.ld_engine.specs.Found.{sought, sought_in};
 
 use ld_names::{Folder, Name, TextId, order};
 use ld_texts::Texts;

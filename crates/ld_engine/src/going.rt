@@ -1,5 +1,5 @@
 // Goes through what a text reaches, and stops at each file that is not known.
-ghost use Rattle.std.specs.Prelude.{◌≡◌, ◌∷◌, ◌<◌, [], ℕ, true, IfOk, IfSome, ◌+◌, ◌^◌, length, option_map, slice_get, List, OnOk, None, Some, nat_eq};
+ghost use Rattle.std.specs.Prelude.{◌≡◌, ◌<◌, ℕ, true, IfOk, IfSome, ◌+◌, ◌^◌, length, option_map, slice_get, List, OnOk, None, Some, nat_eq};
 ghost use Rattle.std.specs.List.{IsDistinct};
 ghost use Rattle.std.specs.Option.{option_copied};
 ghost use Rattle.ld_texts.specs.Known.{lines_at};

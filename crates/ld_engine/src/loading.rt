@@ -1,9 +1,7 @@
 // The text blocks of a model's file become known files.
-ghost use Rattle.std.specs.Prelude.{◌≡◌, ◌≤◌, ◌<◌, [], ◌∷◌, None, length, map, true, false, bytes_eq};
+ghost use Rattle.std.specs.Prelude.{◌≡◌, ◌≤◌, ◌<◌, [], ◌∷◌, length, map, true, bytes_eq};
 ghost use Rattle.std.specs.List.{IsDistinct, list_all};
 ghost use Rattle.ld_mpd.specs.Blocks.{are_inside, text_blocks, texts_in};
-ghost use Rattle.ld_names.specs.Standing.{file_in};
-ghost use Rattle.ld_texts.specs.Known.{id_of};
 ghost use Rattle.ld_engine.specs.Loading.{AreNew, Loads, LoadsBehind, LoadsUpTo, load_refused};
 
 use crate::workspace::Workspace;

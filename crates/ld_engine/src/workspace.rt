@@ -1,4 +1,4 @@
-ghost use Rattle.std.specs.Prelude.{◌≡◌, [], IfOk, None, Some, true};
+ghost use Rattle.std.specs.Prelude.{◌≡◌, None, Some, true};
 ghost use Rattle.ld_engine.specs.Learning.{are_clean};
 ghost use Rattle.ld_engine.specs.Limits.{bad_limit};
 ghost use Rattle.ld_engine.specs.Workspace.{Opens};

@@ -1,5 +1,4 @@
 // Numbers that Rust holds are in range, told as clauses; nothing of it is left in the program.
-ghost use Rattle.std.specs.Prelude.{◌≡◌, All};
 ghost use Rattle.ld_line.specs.Printing.{AreAngles, IsPoint};
 ghost use Rattle.ld_inline.specs.Inside.Shown.{AreFourPoints, IsShownColour};
 

@@ -1,7 +1,7 @@
 //! Worked texts without references. Those with rotation steps are run by the command's tests.
-ghost use Rattle.std.specs.Prelude.{◌≡◌, ◌∷◌, [], Err, IfOk, Ok, codes, length, true, false};
+ghost use Rattle.std.specs.Prelude.{◌≡◌, ◌∷◌, [], Err, IfOk, Ok, codes, true, false};
 ghost use Rattle.ld_line.specs.Word.{ended};
-ghost use Rattle.ld_line.specs.declared.line.Kind.TheVariants.{Line2, Opt, Quad, Tri};
+ghost use Rattle.ld_line.specs.declared.line.Kind.TheVariants.{Line2, Quad, Tri};
 ghost use Rattle.ld_line.specs.declared.line.Winding.TheVariants.{Ccw, Cw};
 ghost use Rattle.ld_colour.specs.declared.colour.Colour.TheVariants.{Code, Direct, Edge, EdgeOf, Main};
 ghost use Rattle.ld_steps.specs.Laws.{AreSteps};

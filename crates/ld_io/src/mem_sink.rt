@@ -1,6 +1,5 @@
 // A sink in memory that fails the puts that it was told to fail.
-ghost use Rattle.std.specs.Prelude.{◌≡◌, ◌<◌, ◌≤◌, ℕ, List, [], ◌∷◌, length, Some, None, OnOk, OnErr, IsSomeAnd, take};
-ghost use Rattle.ld_io.specs.Faults.{next_count};
+ghost use Rattle.std.specs.Prelude.{◌≡◌, ◌<◌, ◌≤◌, [], ◌∷◌, length, Some, None, OnOk, OnErr, IsSomeAnd, take};
 ghost use Rattle.ld_io.specs.MemSink.{listed_len, taken_len, taken_of, with_put, with_fault};
 
 use crate::sink::{PutError, Sink};

@@ -1,5 +1,5 @@
 // A shelf in memory that never fails.
-ghost use Rattle.std.specs.Prelude.{◌≡◌, ◌≢◌, ◌<◌, ◌^◌, ℕ, List, [], ◌∷◌, Some, OnOk, OnErr, option_copied};
+ghost use Rattle.std.specs.Prelude.{◌≡◌, ◌≢◌, ◌<◌, ◌^◌, List, [], ◌∷◌, Some, OnOk, OnErr, option_copied};
 ghost use Rattle.ld_io.specs.Files.{file_found, HasBytes};
 ghost use Rattle.ld_io.specs.Shelf.{FetchFits, FetchTold};
 

@@ -2,7 +2,7 @@ ghost use Rattle.std.specs.Prelude.{◌≡◌, ◌≢◌, ◌≤◌, ◌<◌, []
 ghost use Rattle.ld_line.specs.Block.{block_line_of};
 ghost use Rattle.ld_line.specs.Cut.{lines_from};
 ghost use Rattle.ld_line.specs.Field.{after_field};
-ghost use Rattle.ld_mpd.specs.Blocks.{BeginsSame, IsText, begun_blocks, behind_file, block, block_at, block_name, blocks_of, firsts, has_text, inside, opening};
+ghost use Rattle.ld_mpd.specs.Blocks.{BeginsSame, IsText, behind_file, block, block_at, block_name, blocks_of, firsts, has_text, inside, opening};
 ghost use Rattle.ld_mpd.specs.Seen.{HasSeen};
 
 use crate::block::Block;

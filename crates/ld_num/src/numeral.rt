@@ -1,7 +1,6 @@
 // The parts of a numeral, and the size of its number.
-ghost use Rattle.std.specs.Prelude.{◌≡◌, ℕ, ◌≤◌, ◌&&◌, ◌∷◌, ◌++◌, length, min, IfSome, if◌then◌else◌};
+ghost use Rattle.std.specs.Prelude.{◌≡◌, ◌≤◌, ◌&&◌, ◌∷◌, min, IfSome, if◌then◌else◌};
 ghost use Rattle.std.specs.Option.{option_map};
-ghost use Rattle.std.specs.Str.{all_ascii_digits};
 ghost use Rattle.std.specs.Str.Parse.{AllDigits, digits_value};
 ghost use Rattle.ld_num.specs.Front.{IsFront};
 ghost use Rattle.ld_num.specs.Number.{begins_with_minus, is_power, millionths_of, numeral_of, powers_of, without_sign};

@@ -1,5 +1,5 @@
 // Placing points: exact sums of products in 128 bits, each rounded once.
-ghost use Rattle.std.specs.Prelude.{◌≡◌, ◌^◌, ◌*◌, ◌+◌, ◌≤◌, pos, ◌+ℤ◌, ◌*ℤ◌, neg_ℤ, unsigned_abs, IsTrue, if◌then◌else◌, Some, None};
+ghost use Rattle.std.specs.Prelude.{◌≡◌, ◌^◌, ◌*◌, ◌+◌, ◌≤◌, pos, ◌+ℤ◌, ◌*ℤ◌, neg_ℤ, unsigned_abs, if◌then◌else◌, Some, None};
 ghost use Rattle.ld_num.specs.Number.{is_in_range};
 ghost use Rattle.ld_num.specs.Placing.{determinant, exact, fixed, is_mirrored, is_singular, minor, moved};
 

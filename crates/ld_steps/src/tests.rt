@@ -4,7 +4,6 @@ ghost use Rattle.ld_line.specs.Reading.{line_of};
 ghost use Rattle.ld_steps.specs.Parts.{step_parts};
 ghost use Rattle.ld_steps.specs.Steps.{steps_of};
 ghost use Rattle.ld_steps.specs.declared.step.StepMark.{StepMark};
-ghost use Rattle.ld_steps.specs.declared.step.StepPart.{StepPart};
 
 use crate::{StepMark, Turn, steps_of};
 use ld_line::{Line, read_line};

@@ -1,5 +1,5 @@
 // Edits are prepared, or refused.
-ghost use Rattle.std.specs.Prelude.{◌≡◌, ◌≤◌, ◌<◌, ◌+◌, ◌^◌, ◌∷◌, ℕ, [], IfOk, IfSome, OnErr, OnOk, Some, length, nat_lt, not};
+ghost use Rattle.std.specs.Prelude.{◌≡◌, ◌≤◌, ◌<◌, ◌+◌, ◌^◌, ℕ, [], IfOk, IfSome, OnErr, OnOk, Some, length, nat_lt};
 ghost use Rattle.std.specs.Option.{option_copied};
 ghost use Rattle.std.specs.Vec.{vec_capacity};
 ghost use Rattle.ld_texts.specs.Editing.{AreKnown, edit_change, edited, files_in, is_block_text, lines_needed, refusal_of, refused_if, text_of};

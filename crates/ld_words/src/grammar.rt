@@ -1,4 +1,4 @@
-ghost use Rattle.std.specs.Prelude.{◌≡◌, ◌&&◌, is_some, map, not, string_bytes};
+ghost use Rattle.std.specs.Prelude.{◌≡◌, ◌&&◌, is_some, map, string_bytes};
 ghost use Rattle.ld_words.specs.Words.{are_options, contains, intent_of, is_option, with_rest};
 
 use crate::value::{is_argument, one_word, two_words, value_fits};

@@ -1,7 +1,7 @@
 ghost use Rattle.std.specs.Prelude.{◌≡◌, ◌∷◌, IfErr, IfOk, IfSome, IsSome, List, ℕ, Some, codes, map, option_map, string_bytes};
-ghost use Rattle.clap.specs.Words.{App, app_of, first_value, found_of, kind_of, rule_of, new_rule, with_rule};
+ghost use Rattle.clap.specs.Words.{app_of, first_value, found_of, kind_of, new_rule, with_rule};
 ghost use Rattle.ld_line.specs.Colour.{colour_word};
-ghost use Rattle.ld_words.specs.Ldraw.{intent_from, ldraw, ldraw_places, option_rule, with_option};
+ghost use Rattle.ld_words.specs.Ldraw.{intent_from, ldraw, ldraw_places, with_option};
 ghost use Rattle.ld_words.specs.Shown.{intent_shown, options_shown, task_shown};
 ghost use Rattle.ld_words.specs.Words.{Intent, IsBetween, IsBounded, IsBoundedTask, intent_of, most_cache, most_depth, most_entries, most_workers, number_in, options_from, task_of, value_or};
 

@@ -1,8 +1,7 @@
-ghost use Rattle.std.specs.Prelude.{◌≡◌, ◌<◌, ◌^◌, IfSome, is_some, option_and_then, option_map};
+ghost use Rattle.std.specs.Prelude.{◌≡◌, ◌<◌, IfSome, is_some, option_map};
 ghost use Rattle.ld_line.specs.Colour.{colour_word};
-ghost use Rattle.ld_line.specs.Digits.{decimal_number};
 ghost use Rattle.ld_words.specs.Shown.{task_shown};
-ghost use Rattle.ld_words.specs.Words.{IsBetween, IsBoundedTask, between, cache_of, is_argument, max_depth_of, max_entries_of, number_in, one_word, two_words, value_fits, workers_of};
+ghost use Rattle.ld_words.specs.Words.{IsBetween, IsBoundedTask, is_argument, number_in, one_word, two_words, value_fits};
 
 use crate::listing::listing_of;
 use crate::request::Task;
