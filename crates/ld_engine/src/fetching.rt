@@ -10,7 +10,7 @@ use ld_names::{Bytes, FileId, Folder, Lines, List};
 use std::alloc::{AllocError, Global};
 
 // Why a file's text is not to be had.
-#[derive(Clone, Copy, Debug, PartialEq, Eq)]
+#[derive(Clone, Copy)]
 pub(crate) enum FetchStop {
     ReadFault,
     TooBig,

@@ -6,7 +6,7 @@ use ld_names::{Folder, Name, TextId, order};
 use ld_texts::Texts;
 
 /// What a name in a file comes to.
-#[derive(Clone, Copy, Debug, PartialEq, Eq)]
+#[derive(Clone, Copy)]
 pub(crate) enum Sought {
     Text(TextId),
     Absent,

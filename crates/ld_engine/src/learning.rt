@@ -14,7 +14,7 @@ use ld_texts::{LearnError, Over, learning_law, number_law};
 use std::alloc::AllocError;
 
 // Why a file is not learnt.
-#[derive(Debug, Drop)]
+#[derive(Drop)]
 pub(crate) enum LearnStop {
     ReadFault,
     TooBig(FileId),
