@@ -10,8 +10,6 @@ mod laws;
 mod order;
 mod passed;
 mod said;
-#[cfg(test)]
-mod tests;
 mod vector;
 
 pub use checking::check;

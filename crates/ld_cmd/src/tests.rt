@@ -11,10 +11,16 @@ ghost use Rattle.ld_cmd.specs.declared.folders.Unusable.TheVariants.{Memory, Not
 ghost use Rattle.ld_cmd.specs.declared.status.Status.TheVariants as status;
 
 mod commands;
+mod edits;
 mod faces;
+mod findings;
 mod inlined;
+mod limits;
 mod ordinary;
 mod outside;
+mod requests;
+mod scripts;
+mod threads;
 mod words;
 
 use crate::tests::commands::COMMANDS;

@@ -19,8 +19,6 @@ mod reading;
 mod root;
 mod seen;
 mod stepping;
-#[cfg(test)]
-mod tests;
 mod workspace;
 
 pub use asking::{Answer, AnswerError};

@@ -5,8 +5,6 @@ mod command;
 mod fields;
 mod line;
 mod script;
-#[cfg(test)]
-mod tests;
 
 pub use command::{Command, Query, Root};
 pub use script::read_script;

@@ -8,8 +8,6 @@ mod ids;
 mod laws;
 mod preparing;
 mod ready;
-#[cfg(test)]
-mod tests;
 mod text;
 mod texts;
 

@@ -6,8 +6,6 @@ mod grammar;
 mod listing;
 mod read;
 mod request;
-#[cfg(test)]
-mod tests;
 mod value;
 
 pub use grammar::{USAGE, is_command};

@@ -1,6 +1,6 @@
 //! Models at limits.
-use crate::*;
 use ld_colour::Colour;
+use ld_engine::{Limits, Workspace};
 use ld_io::{MemShelf, Place};
 use ld_names::{FileId, List, normal};
 use ld_texts::Edit;
@@ -149,16 +149,4 @@ fn workspace_limits(rt: HostRuntime) {
         "weight"
     );
     assert!(rt; gives(alloc, bad, X, b"", "BadLimit(2)"), "limits");
-}
-
-fn crosses_threads<T: Send + Sync>() {}
-
-#[test]
-fn types_cross_threads() {
-    crosses_threads::<Workspace>();
-    crosses_threads::<Limits>();
-    crosses_threads::<Answer>();
-    crosses_threads::<AnswerError>();
-    crosses_threads::<EditError>();
-    crosses_threads::<OpenError>();
 }

@@ -6,7 +6,7 @@ use Rattle.ld_line.specs.Colour.{colour_word}
 use Rattle.ld_line.specs.Field.{after_field, fields}
 use Rattle.ld_line.specs.Reading.{line_of}
 use Rattle.ld_check.specs.Findings.{findings_of}
-use Rattle.ld_check.proofs.tests.findings_by_definition.Goals as goal
+use Rattle.ld_cmd.proofs.tests.findings.findings_by_definition.Goals as goal
 
 -- what the findings compute with
 opened : ℕ

@@ -1,6 +1,6 @@
 //! Worked lists of words.
 
-use crate::{Options, Task, given_words, is_command, read_request};
+use ld_words::{Options, Task, given_words, is_command, read_request};
 use std::alloc::{AllocError, Global};
 use std::test::Fail;
 

@@ -1,6 +1,6 @@
 //! Worked scripts.
-use crate::{Command, Query, Root, read_script};
 use ld_names::FileId;
+use ld_script::{Command, Query, Root, read_script};
 use ld_texts::Edit;
 use std::alloc::{AllocError, Global};
 
@@ -207,13 +207,4 @@ fn scripts(rt: HostRuntime) {
     for row in SCRIPTS.lines() {
         assert!(rt; script_row_holds(alloc, row), "{row}");
     }
-}
-
-fn crosses_threads<T: Send + Sync>() {}
-
-#[test]
-fn types_cross_threads() {
-    crosses_threads::<Command>();
-    crosses_threads::<Query>();
-    crosses_threads::<Root>();
 }
