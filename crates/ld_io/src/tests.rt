@@ -72,38 +72,63 @@ fn fetch_row_holds(alloc: Global, shelf: &mut impl Shelf, row: &str) -> bool {
     is_shown(fetched_at(alloc, shelf, file), want)
 }
 
+// The files of both shelves, of which a later one counts.
+static FILES: [(Place, &[u8], &[u8]); 4] = [
+    (Place::Work, b"empty", b""),
+    (Place::Parts, b"3001.dat", b"old"),
+    (Place::P, b"3001.dat", b"xyz"),
+    (Place::Parts, b"3001.dat", b"abcd"),
+];
+
 fn sure_shelf(alloc: Global) -> Result<SureShelf, AllocError> {
     let mut shelf = SureShelf::new(alloc);
-    shelf.add(Place::Work, b"empty", b"")?;
-    shelf.add(Place::Parts, b"3001.dat", b"old")?;
-    shelf.add(Place::P, b"3001.dat", b"xyz")?;
-    shelf.add(Place::Parts, b"3001.dat", b"abcd")?;
+    for (place, name, bytes) in &FILES {
+        shelf.add(*place, name, bytes)?;
+    }
     Ok(shelf)
 }
 
+// One of which the first fetch fails, and the ninth.
 fn mem_shelf(alloc: Global) -> Result<MemShelf, AllocError> {
     let mut shelf = MemShelf::new(alloc);
-    shelf.add(Place::Work, b"empty", b"")?;
-    shelf.add(Place::Parts, b"3001.dat", b"old")?;
-    shelf.add(Place::P, b"3001.dat", b"xyz")?;
-    shelf.add(Place::Parts, b"3001.dat", b"abcd")?;
+    for (place, name, bytes) in &FILES {
+        shelf.add(*place, name, bytes)?;
+    }
     shelf.fail(9)?;
     shelf.fail(1)?;
     Ok(shelf)
 }
 
-#[test]
-fn shelves_give_the_newest_file(rt: HostRuntime) -> Result<(), AllocError> {
-    let alloc = rt.alloc();
-    let mut sure = sure_shelf(alloc)?;
-    let mut mem = mem_shelf(alloc)?;
-    let failed = "Parts 3001.dat 4 => Failed ";
-    assert!(rt; fetch_row_holds(alloc, &mut mem, failed), "first fetch");
+// The first row that does not hold, or nothing.
+fn wrong_fetch(alloc: Global, shelf: &mut impl Shelf) -> &'static str {
     for row in FETCHES.lines() {
-        assert!(rt; fetch_row_holds(alloc, &mut sure, row), "{row}");
-        assert!(rt; fetch_row_holds(alloc, &mut mem, row), "{row}");
+        if !fetch_row_holds(alloc, shelf, row) {
+            return row;
+        }
     }
-    assert!(rt; fetch_row_holds(alloc, &mut mem, failed), "ninth fetch");
+    ""
+}
+
+fn fetch_fails(alloc: Global, shelf: &mut MemShelf) -> bool {
+    fetch_row_holds(alloc, shelf, "Parts 3001.dat 4 => Failed ")
+}
+
+#[test]
+fn sure_shelves_give_the_newest_file(rt: HostRuntime) -> Result<(), AllocError> {
+    let mut shelf = sure_shelf(rt.alloc())?;
+    let wrong = wrong_fetch(rt.alloc(), &mut shelf);
+    assert!(rt; wrong.is_empty(), "{wrong}");
+    Ok(())
+}
+
+#[test]
+fn listed_fetches_fail(rt: HostRuntime) -> Result<(), AllocError> {
+    let alloc = rt.alloc();
+    let mut shelf = mem_shelf(alloc)?;
+    assert!(rt; fetch_fails(alloc, &mut shelf), "first fetch");
+    let wrong = wrong_fetch(alloc, &mut shelf);
+    assert!(rt; wrong.is_empty(), "{wrong}");
+    assert!(rt; fetch_fails(alloc, &mut shelf), "ninth fetch");
     Ok(())
 }
 
@@ -135,9 +160,13 @@ fn failing_sink(alloc: Global, call: u64, taken: u64) -> Result<MemSink, AllocEr
 
 fn put_thrice(alloc: Global, call: u64, taken: u64) -> Result<String, AllocError> {
     let mut sink = failing_sink(alloc, call, taken)?;
-    let first = put_word(&mut sink, b"ab");
-    let second = put_word(&mut sink, b"");
-    let third = put_word(&mut sink, b"cde");
+    puts_told(alloc, &mut sink)
+}
+
+fn puts_told(alloc: Global, sink: &mut MemSink) -> Result<String, AllocError> {
+    let first = put_word(sink, b"ab");
+    let second = put_word(sink, b"");
+    let third = put_word(sink, b"cde");
     let bytes = String::from_utf8_lossy(alloc, sink.bytes())?;
     format!(in alloc; "{first} {second} {third} {bytes}")
 }
@@ -162,9 +191,16 @@ fn listed_puts_take_a_part(rt: HostRuntime) {
     for row in PUTS.lines() {
         assert!(rt; put_row_holds(alloc, row), "put {row}");
     }
+}
+
+fn sure_sink_takes_all(alloc: Global) -> bool {
     let mut sink = SureSink::new(alloc);
-    assert!(rt; sink.put(b"ab").is_ok() && sink.put(b"c").is_ok());
-    assert!(rt; sink.bytes() == "abc".as_bytes());
+    sink.put(b"ab").is_ok() && sink.put(b"c").is_ok() && sink.bytes() == b"abc".as_slice()
+}
+
+#[test]
+fn sure_sinks_take_all(rt: HostRuntime) {
+    assert!(rt; sure_sink_takes_all(rt.alloc()));
 }
 
 // Reads or writes two bytes a call at most, and fails the call of one number.

@@ -10,7 +10,7 @@ use std::alloc::{AllocError, Global};
 use std::cmp::Ordering;
 
 // The worked example names, and more names.
-const NAMES: [(&[u8], Result<&[u8], NameError>); 36] = [
+static NAMES: [(&[u8], Result<&[u8], NameError>); 36] = [
     (b"S\\3001S01.DAT", Ok(b"s/3001s01.dat")),
     (b"s/3001s01.dat", Ok(b"s/3001s01.dat")),
     (b" \t my Car.ldr\t ", Ok(b"my car.ldr")),
@@ -59,13 +59,13 @@ fn is_normal(alloc: Global, text: &[u8], wanted: Result<&[u8], NameError>) -> bo
 #[test]
 fn normal_forms(rt: HostRuntime) {
     let alloc = rt.alloc();
-    for (text, wanted) in NAMES {
-        assert!(rt; is_normal(alloc, text, wanted), "{text:?}");
+    for (text, wanted) in &NAMES {
+        assert!(rt; is_normal(alloc, text, *wanted), "{text:?}");
     }
 }
 
 // Files, and how a part's name stands to each.
-const FILES: [(Folder, &[u8], Ordering); 7] = [
+static FILES: [(Folder, &[u8], Ordering); 7] = [
     (Folder::Parts, b"S\\3001S01.DAT", Ordering::Equal),
     (Folder::Parts, b"s/3001s01.da", Ordering::Greater),
     (Folder::Parts, b"s/3001s01.dat1", Ordering::Less),
@@ -115,9 +115,9 @@ fn name_is_copied(alloc: Global, name: &Name) -> bool {
 fn files(rt: HostRuntime) -> Result<(), NameError> {
     let alloc = rt.alloc();
     let part = file(alloc, Folder::Parts, b"s/3001s01.dat")?;
-    for (folder, name, wanted) in FILES {
+    for (folder, name, wanted) in &FILES {
         assert!(rt;
-            file_row_holds(alloc, &part, folder, name, wanted),
+            file_row_holds(alloc, &part, *folder, name, *wanted),
             "{name:?}"
         );
     }
@@ -133,10 +133,14 @@ const ORDERS: [(Folder, u8, [Folder; 3]); 3] = [
     (Folder::P, 2, [Folder::Parts, Folder::P, Folder::P]),
 ];
 
+fn is_order(from: Folder, count: u8, list: [Folder; 3]) -> bool {
+    order(from) == Folders { count, list }
+}
+
 #[test]
 fn folders(rt: HostRuntime) {
     for (from, count, list) in ORDERS {
-        assert!(rt; order(from) == Folders { count, list }, "{from:?}");
+        assert!(rt; is_order(from, count, list), "{from:?}");
     }
 }
 
@@ -146,25 +150,38 @@ fn one_to_three(alloc: Global) -> Result<Bytes, AllocError> {
     Ok(list)
 }
 
-fn one_line(alloc: Global, line: Bytes) -> Result<Lines, AllocError> {
+fn one_line(alloc: Global) -> Result<Lines, AllocError> {
+    let line = one_to_three(alloc)?;
     let mut lines = List::new(alloc);
     lines.push(List::from_vec(line.into_vec()))?;
     Ok(lines)
 }
 
-fn has_one_line(lines: &[Bytes], wanted: &[u8]) -> bool {
-    lines.len() == 1 && lines[0].as_slice() == wanted
+fn is_new_empty(alloc: Global) -> bool {
+    let lines: Lines = List::new(alloc);
+    lines.as_slice().is_empty()
+}
+
+fn is_list(list: Result<Bytes, AllocError>, wanted: &[u8]) -> bool {
+    match list {
+        Ok(list) => list.as_slice() == wanted,
+        Err(_) => false,
+    }
+}
+
+fn is_one_line(lines: Result<Lines, AllocError>, wanted: &[u8]) -> bool {
+    match lines {
+        Ok(lines) => lines.as_slice().len() == 1 && lines.as_slice()[0].as_slice() == wanted,
+        Err(_) => false,
+    }
 }
 
 #[test]
-fn lists(rt: HostRuntime) -> Result<(), AllocError> {
-    let none: Lines = List::new(rt.alloc());
-    assert!(rt; none.as_slice().is_empty());
-    let list = one_to_three(rt.alloc())?;
-    assert!(rt; list.as_slice() == [1, 2, 3].as_slice());
-    let lines = one_line(rt.alloc(), list)?;
-    assert!(rt; has_one_line(lines.as_slice(), &[1, 2, 3]));
-    Ok(())
+fn lists(rt: HostRuntime) {
+    let alloc = rt.alloc();
+    assert!(rt; is_new_empty(alloc));
+    assert!(rt; is_list(one_to_three(alloc), &[1, 2, 3]));
+    assert!(rt; is_one_line(one_line(alloc), &[1, 2, 3]));
 }
 
 fn crosses_threads<T: Send + Sync>() {}
