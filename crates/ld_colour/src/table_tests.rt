@@ -237,16 +237,20 @@ fn whole_colour_files(rt: HostRuntime) {
     }
 }
 
+fn empty_has(alloc: Global, colour: Colour, rgb: Option<u32>) -> bool {
+    Table::empty(alloc).rgb(colour) == rgb
+}
+
 #[test]
 fn an_empty_table(rt: HostRuntime) {
-    let table = Table::empty(rt.alloc());
-    for (colour, rgb) in [(Direct(7), Some(7)), (Code(4), None), (Main, None)] {
-        assert!(rt; table.rgb(colour) == rgb, "{colour:?}");
-    }
+    let alloc = rt.alloc();
+    assert!(rt; empty_has(alloc, Direct(7), Some(7)));
+    assert!(rt; empty_has(alloc, Code(4), None));
+    assert!(rt; empty_has(alloc, Main, None));
 }
 
 // The row `colours`: a colour, and its rgb.
-const COLOURS: [(Colour, Option<u32>); 9] = [
+static COLOURS: [(Colour, Option<u32>); 9] = [
     (Code(4), Some(0xC91A09)),
     (EdgeOf(4), Some(0x333333)),
     (Code(1), Some(0x0055BF)),
@@ -259,7 +263,7 @@ const COLOURS: [(Colour, Option<u32>); 9] = [
 ];
 
 // Colours of the published file.
-const CONFIGURED: [(Colour, Option<u32>); 9] = [
+static CONFIGURED: [(Colour, Option<u32>); 9] = [
     (Code(0), Some(0x1B2A34)),
     (EdgeOf(47), Some(0xC3C3C3)),
     (Code(21), Some(0xE0FFB0)),
@@ -288,19 +292,20 @@ fn has_rgb(alloc: Global, file: &[u8], colour: Colour, rgb: Option<u32>) -> bool
 #[test]
 fn three_colours(rt: HostRuntime) {
     let alloc = rt.alloc();
-    for (colour, rgb) in COLOURS {
-        assert!(rt; has_rgb(alloc, THREE, colour, rgb), "{colour:?}");
+    for (colour, rgb) in &COLOURS {
+        assert!(rt; has_rgb(alloc, THREE, *colour, *rgb), "{colour:?}");
     }
+}
+
+fn is_configured(alloc: Global, colour: Colour, rgb: Option<u32>) -> bool {
+    has_rgb(alloc, CONFIGURATION.as_bytes(), colour, rgb)
 }
 
 #[test]
 fn the_published_configuration(rt: HostRuntime) {
     let alloc = rt.alloc();
-    for (colour, rgb) in CONFIGURED {
-        assert!(rt;
-            has_rgb(alloc, CONFIGURATION.as_bytes(), colour, rgb),
-            "{colour:?}"
-        );
+    for (colour, rgb) in &CONFIGURED {
+        assert!(rt; is_configured(alloc, *colour, *rgb), "{colour:?}");
     }
 }
 
