@@ -12,7 +12,6 @@ ghost use Rattle.ld_bfc.specs.declared.culling.Cert.TheVariants.{No, Silent, Yes
 use crate::{Below, Cert, State, below_of, face, next, start, with};
 use ld_line::{Winding, read_line};
 use std::alloc::{AllocError, Global};
-use std::test::Fail;
 
 // Lines of a text, and the state behind them: certification, clip, winding, a waiting INVERTNEXT,
 // and whether something is drawn.
@@ -71,32 +70,54 @@ const STATES: &str = " => Silent true Ccw false false\n\
 fn state_behind(alloc: Global, part: bool, lines: &str) -> Result<State, AllocError> {
     let mut state = start(part);
     for line in lines.split('|') {
-        state = next(state, &read_line(alloc, line.as_bytes())?);
+        state = step(alloc, state, line)?;
     }
     Ok(state)
 }
 
+fn step(alloc: Global, state: State, line: &str) -> Result<State, AllocError> {
+    let line = read_line(alloc, line.as_bytes())?;
+    Ok(next(state, &line))
+}
+
+fn state_text(alloc: Global, state: &State) -> Result<String, AllocError> {
+    let State {
+        cert,
+        clip,
+        winding,
+        invert_next,
+        drawn,
+        ..
+    } = state;
+    format!(in alloc; "{cert:?} {clip} {winding:?} {invert_next} {drawn}")
+}
+
+fn is_shown(alloc: Global, state: &State, want: &str) -> bool {
+    match state_text(alloc, state) {
+        Ok(text) => text.as_str() == want,
+        Err(_) => false,
+    }
+}
+
+fn row_holds(alloc: Global, row: &str, part: bool) -> bool {
+    let Some((lines, want)) = row.split_once(" => ") else {
+        return false;
+    };
+    match state_behind(alloc, part, lines) {
+        Ok(state) => state.part == part && is_shown(alloc, &state, want),
+        Err(_) => false,
+    }
+}
+
 #[test]
-fn states_behind_lines(rt: HostRuntime) -> Result<(), Fail> {
+fn states_behind_lines(rt: HostRuntime) {
     let alloc = rt.alloc();
     for row in STATES.lines() {
-        let (lines, want) = row.split_once(" => ").ok_or("a row without =>")?;
-        for part in [false, true] {
-            let state = state_behind(alloc, part, lines)?;
-            let State {
-                cert,
-                clip,
-                winding,
-                invert_next,
-                drawn,
-                ..
-            } = state;
-            let got = format!(in alloc; "{cert:?} {clip} {winding:?} {invert_next} {drawn}")?;
-            assert_eq!(rt; got.as_str(), want, "{lines:?}");
-            assert_eq!(rt; state.part, part, "{lines:?}");
-        }
+        assert!(rt;
+            row_holds(alloc, row, false) && row_holds(alloc, row, true),
+            "{row:?}"
+        );
     }
-    Ok(())
 }
 
 fn state_of(cert: Cert, part: bool, clip: bool, invert_next: bool) -> State {
@@ -106,6 +127,14 @@ fn state_of(cert: Cert, part: bool, clip: bool, invert_next: bool) -> State {
         invert_next,
         winding: Winding::Cw,
         ..start(part)
+    }
+}
+
+fn below(enable: bool, clip: bool, invert: bool) -> Below {
+    Below {
+        enable,
+        clip,
+        invert,
     }
 }
 
@@ -121,16 +150,8 @@ fn passes(state: State, mirrored: bool, below: Below) -> bool {
 fn is_culled(cert: Cert, part: bool, enable: bool, clip: bool) -> bool {
     let plain = state_of(cert, part, clip, false);
     let waiting = state_of(cert, part, clip, true);
-    let straight = Below {
-        enable,
-        clip,
-        invert: false,
-    };
-    let turned = Below {
-        enable,
-        clip,
-        invert: true,
-    };
+    let straight = below(enable, clip, false);
+    let turned = below(enable, clip, true);
     let certified = matches!(cert, Cert::Yes);
     has_face(plain, certified, clip)
         && has_face(waiting, certified, clip)
@@ -141,15 +162,23 @@ fn is_culled(cert: Cert, part: bool, enable: bool, clip: bool) -> bool {
 }
 
 // A text's certification, whether it is a part text, and whether it passes certification on.
+static CULLED: [(Cert, bool, bool); 6] = [
+    (Cert::Yes, false, true),
+    (Cert::Yes, true, true),
+    (Cert::No, false, false),
+    (Cert::No, true, false),
+    (Cert::Silent, false, true),
+    (Cert::Silent, true, false),
+];
+
+fn are_culled(cert: Cert, part: bool, enable: bool) -> bool {
+    is_culled(cert, part, enable, false) && is_culled(cert, part, enable, true)
+}
+
 #[test]
 fn faces_and_references(rt: HostRuntime) {
-    for clip in [false, true] {
-        assert!(rt; is_culled(Cert::Yes, false, true, clip));
-        assert!(rt; is_culled(Cert::Yes, true, true, clip));
-        assert!(rt; is_culled(Cert::No, false, false, clip));
-        assert!(rt; is_culled(Cert::No, true, false, clip));
-        assert!(rt; is_culled(Cert::Silent, false, true, clip));
-        assert!(rt; is_culled(Cert::Silent, true, false, clip));
+    for (cert, part, enable) in &CULLED {
+        assert!(rt; are_culled(*cert, *part, *enable), "{cert:?} {part}");
     }
 }
 
@@ -159,36 +188,13 @@ fn are_with(outer: Below, inner: Below, wanted: Below) -> bool {
 
 #[test]
 fn two_references(rt: HostRuntime) {
-    let turned = Below {
-        enable: true,
-        clip: true,
-        invert: true,
-    };
-    let plain = Below {
-        invert: false,
-        ..turned
-    };
-    let bare = Below {
-        enable: false,
-        clip: false,
-        ..plain
-    };
-    let turned_bare = Below {
-        invert: true,
-        ..bare
-    };
-    let enabled = Below {
-        enable: true,
-        ..bare
-    };
-    let unclipped = Below {
-        clip: false,
-        ..turned
-    };
+    let turned = below(true, true, true);
+    let plain = below(true, true, false);
+    let bare = below(false, false, false);
     assert!(rt; are_with(turned, turned, plain));
     assert!(rt; are_with(turned, plain, turned));
-    assert!(rt; are_with(bare, turned, turned_bare));
-    assert!(rt; are_with(turned, enabled, unclipped));
+    assert!(rt; are_with(bare, turned, below(false, false, true)));
+    assert!(rt; are_with(turned, below(true, false, false), below(true, false, true)));
 }
 
 fn crosses_threads<T: Send + Sync>() {}

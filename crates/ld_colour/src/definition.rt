@@ -1,4 +1,4 @@
-ghost use Rattle.std.specs.Prelude.{◌≡◌};
+ghost use Rattle.std.specs.Prelude.{◌≡◌, ◌∷◌, List, ℕ};
 ghost use Rattle.ld_line.specs.Field.{fields};
 ghost use Rattle.ld_colour.specs.Definition.{are_keywords, colour_line, defined_by, defining, edge_value, is_optional, is_rest, is_up_to_255, made, rgb_value, six_hex_digits};
 
@@ -59,6 +59,13 @@ fn read_definition(rest: &[u8]) -> Option<(u32, Definition)>
     let (_name, rest) = split_field(rest)?;
     let (code_word, rest) = split_field(rest)?;
     let (code, rest) = split_field(rest)?;
+    read_values(code_word, code, rest)
+}
+
+// The same by a code's two fields and what stands behind them.
+fn read_values(code_word: &[u8], code: &[u8], rest: &[u8]) -> Option<(u32, Definition)>
+    ensures { (name : List ℕ) → result ≡ defined_by (name ∷ code_word.now ∷ code.now ∷ fields rest.now) }
+{
     let (value_word, rest) = split_field(rest)?;
     let (value, rest) = split_field(rest)?;
     let (edge_word, rest) = split_field(rest)?;

@@ -237,16 +237,20 @@ fn whole_colour_files(rt: HostRuntime) {
     }
 }
 
+fn empty_has(alloc: Global, colour: Colour, rgb: Option<u32>) -> bool {
+    Table::empty(alloc).rgb(colour) == rgb
+}
+
 #[test]
 fn an_empty_table(rt: HostRuntime) {
-    let table = Table::empty(rt.alloc());
-    for (colour, rgb) in [(Direct(7), Some(7)), (Code(4), None), (Main, None)] {
-        assert_eq!(rt; table.rgb(colour), rgb, "{colour:?}");
-    }
+    let alloc = rt.alloc();
+    assert!(rt; empty_has(alloc, Direct(7), Some(7)));
+    assert!(rt; empty_has(alloc, Code(4), None));
+    assert!(rt; empty_has(alloc, Main, None));
 }
 
 // The row `colours`: a colour, and its rgb.
-const COLOURS: [(Colour, Option<u32>); 9] = [
+static COLOURS: [(Colour, Option<u32>); 9] = [
     (Code(4), Some(0xC91A09)),
     (EdgeOf(4), Some(0x333333)),
     (Code(1), Some(0x0055BF)),
@@ -259,7 +263,7 @@ const COLOURS: [(Colour, Option<u32>); 9] = [
 ];
 
 // Colours of the published file.
-const CONFIGURED: [(Colour, Option<u32>); 9] = [
+static CONFIGURED: [(Colour, Option<u32>); 9] = [
     (Code(0), Some(0x1B2A34)),
     (EdgeOf(47), Some(0xC3C3C3)),
     (Code(21), Some(0xE0FFB0)),
@@ -271,24 +275,37 @@ const CONFIGURED: [(Colour, Option<u32>); 9] = [
     (Code(13), None),
 ];
 
-#[test]
-fn colours_and_the_published_configuration(rt: HostRuntime) {
-    let alloc = rt.alloc();
-    let file = b"0 !COLOUR Red CODE 4 VALUE #C91A09 EDGE #333333\n\
+const THREE: &[u8] = b"0 !COLOUR Red CODE 4 VALUE #C91A09 EDGE #333333\n\
 0 !COLOUR Blue CODE 1 VALUE 0x0055bf EDGE 0\n\
 0 !COLOUR Black CODE 0 VALUE #05131D EDGE #595959";
-    match Table::read(alloc, file) {
-        Ok(table) => for (colour, rgb) in COLOURS {
-            assert!(rt; table.rgb(colour) == rgb, "{colour:?}");
-        },
-        Err(_) => assert!(rt; false, "no table"),
+
+fn has_rgb(alloc: Global, file: &[u8], colour: Colour, rgb: Option<u32>) -> bool {
+    if file.len() > 0xFFFFFFFF {
+        return false;
     }
-    assert!(rt; CONFIGURATION.len() < 10000);
-    match Table::read(alloc, CONFIGURATION.as_bytes()) {
-        Ok(table) => for (colour, rgb) in CONFIGURED {
-            assert!(rt; table.rgb(colour) == rgb, "{colour:?}");
-        },
-        Err(_) => assert!(rt; false, "no table"),
+    match Table::read(alloc, file) {
+        Ok(table) => table.rgb(colour) == rgb,
+        Err(_) => false,
+    }
+}
+
+#[test]
+fn three_colours(rt: HostRuntime) {
+    let alloc = rt.alloc();
+    for (colour, rgb) in &COLOURS {
+        assert!(rt; has_rgb(alloc, THREE, *colour, *rgb), "{colour:?}");
+    }
+}
+
+fn is_configured(alloc: Global, colour: Colour, rgb: Option<u32>) -> bool {
+    has_rgb(alloc, CONFIGURATION.as_bytes(), colour, rgb)
+}
+
+#[test]
+fn the_published_configuration(rt: HostRuntime) {
+    let alloc = rt.alloc();
+    for (colour, rgb) in &CONFIGURED {
+        assert!(rt; is_configured(alloc, *colour, *rgb), "{colour:?}");
     }
 }
 

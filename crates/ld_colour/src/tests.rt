@@ -20,32 +20,53 @@ fn is_under(colour: Colour, current: Colour, wanted: Colour) -> bool {
     under(colour, current) == wanted
 }
 
+// A word of a line, and the colour that it stands for.
+static WORDS: [(u32, Colour); 12] = [
+    (0, Code(0)),
+    (15, Code(15)),
+    (16, Main),
+    (17, Code(17)),
+    (23, Code(23)),
+    (24, Edge),
+    (25, Code(25)),
+    (0x1FFFFFF, Code(0x1FFFFFF)),
+    (0x2000000, Direct(0)),
+    (0x2FFFFFF, Direct(0xFFFFFF)),
+    (0x3000000, Code(0x3000000)),
+    (4294967295, Code(4294967295)),
+];
+
 #[test]
 fn words_of_lines(rt: HostRuntime) {
-    assert!(rt; stands_for(0, Code(0)));
-    assert!(rt; stands_for(15, Code(15)));
-    assert!(rt; stands_for(16, Main));
-    assert!(rt; stands_for(17, Code(17)));
-    assert!(rt; stands_for(23, Code(23)));
-    assert!(rt; stands_for(24, Edge));
-    assert!(rt; stands_for(25, Code(25)));
-    assert!(rt; stands_for(0x1FFFFFF, Code(0x1FFFFFF)));
-    assert!(rt; stands_for(0x2000000, Direct(0)));
-    assert!(rt; stands_for(0x2FFFFFF, Direct(0xFFFFFF)));
-    assert!(rt; stands_for(0x3000000, Code(0x3000000)));
-    assert!(rt; stands_for(4294967295, Code(4294967295)));
+    for (word, colour) in &WORDS {
+        assert!(rt; stands_for(*word, *colour), "{word}");
+    }
 }
+
+// A colour, its edge colour, and what it is where Code(4) and where Edge is current.
+static BECOMES: [(Colour, Colour, Colour, Colour); 6] = [
+    (Main, Edge, Code(4), Edge),
+    (Edge, Edge, EdgeOf(4), Edge),
+    (Code(1), EdgeOf(1), Code(1), Code(1)),
+    (EdgeOf(1), EdgeOf(1), EdgeOf(1), EdgeOf(1)),
+    (
+        Direct(0xFF8000),
+        Direct(0x333333),
+        Direct(0xFF8000),
+        Direct(0xFF8000),
+    ),
+    (Direct(0), Direct(0x333333), Direct(0), Direct(0)),
+];
 
 #[test]
 fn edges_and_inheritance(rt: HostRuntime) {
-    assert!(rt; becomes(Main, Edge, Code(4), Edge));
-    assert!(rt; becomes(Edge, Edge, EdgeOf(4), Edge));
-    assert!(rt; becomes(Code(1), EdgeOf(1), Code(1), Code(1)));
-    assert!(rt; becomes(EdgeOf(1), EdgeOf(1), EdgeOf(1), EdgeOf(1)));
-    let (orange, grey) = (Direct(0xFF8000), Direct(0x333333));
-    assert!(rt; becomes(orange, grey, orange, orange));
-    assert!(rt; becomes(Direct(0), grey, Direct(0), Direct(0)));
-    assert!(rt; is_under(Edge, Direct(1), grey));
+    for (colour, of_edges, in_red, in_edge) in &BECOMES {
+        assert!(rt;
+            becomes(*colour, *of_edges, *in_red, *in_edge),
+            "{colour:?}"
+        );
+    }
+    assert!(rt; is_under(Edge, Direct(1), Direct(0x333333)));
     assert!(rt; is_under(Edge, EdgeOf(7), EdgeOf(7)));
 }
 

@@ -9,27 +9,20 @@ use std::io;
 use std::io::{ErrorKind, Read, Write};
 
 // A place, a name, the most bytes, and what a fetch gives.
-const FETCHES: &str = "Work empty 0 => Found\x20\n\
-Parts 3001.dat 4 => Found abcd\n\
-Parts 3001.dat 3 => TooBig abcd\n\
-Parts 3001.dat 0 => TooBig a\n\
-P 3001.dat 4294967295 => Found xyz\n\
-Model 3001.dat 4 => Absent\x20\n\
-Parts 3001.DAT 4 => Absent\x20";
+static FETCHES: [(Place, &str, u32, &str); 7] = [
+    (Place::Work, "empty", 0, "Found "),
+    (Place::Parts, "3001.dat", 4, "Found abcd"),
+    (Place::Parts, "3001.dat", 3, "TooBig abcd"),
+    (Place::Parts, "3001.dat", 0, "TooBig a"),
+    (Place::P, "3001.dat", 4294967295, "Found xyz"),
+    (Place::Model, "3001.dat", 4, "Absent "),
+    (Place::Parts, "3001.DAT", 4, "Absent "),
+];
 
-fn is_shown(shown: Option<String>, want: &str) -> bool {
+fn is_shown(shown: Result<String, AllocError>, want: &str) -> bool {
     match shown {
-        Some(shown) => shown.as_str() == want,
-        None => false,
-    }
-}
-
-fn place_of(word: &str) -> Place {
-    match word {
-        "Model" => Place::Model,
-        "Parts" => Place::Parts,
-        "P" => Place::P,
-        _ => Place::Work,
+        Ok(shown) => shown.as_str() == want,
+        Err(_) => false,
     }
 }
 
@@ -57,66 +50,81 @@ fn fetched(
     format!(in alloc; "{word} {bytes}")
 }
 
-fn fetched_at(alloc: Global, shelf: &mut impl Shelf, file: &str) -> Option<String> {
-    let (place, rest) = file.split_once(' ')?;
-    let (name, max) = rest.split_once(' ')?;
-    let max = max.parse().ok()?;
-    fetched(alloc, shelf, place_of(place), name, max).ok()
-}
-
-// Whether a fetch gives what its row says.
-fn fetch_row_holds(alloc: Global, shelf: &mut impl Shelf, row: &str) -> bool {
-    let Some((file, want)) = row.split_once(" => ") else {
-        return false;
-    };
-    is_shown(fetched_at(alloc, shelf, file), want)
-}
+// The files of both shelves, of which a later one counts.
+static FILES: [(Place, &[u8], &[u8]); 4] = [
+    (Place::Work, b"empty", b""),
+    (Place::Parts, b"3001.dat", b"old"),
+    (Place::P, b"3001.dat", b"xyz"),
+    (Place::Parts, b"3001.dat", b"abcd"),
+];
 
 fn sure_shelf(alloc: Global) -> Result<SureShelf, AllocError> {
     let mut shelf = SureShelf::new(alloc);
-    shelf.add(Place::Work, b"empty", b"")?;
-    shelf.add(Place::Parts, b"3001.dat", b"old")?;
-    shelf.add(Place::P, b"3001.dat", b"xyz")?;
-    shelf.add(Place::Parts, b"3001.dat", b"abcd")?;
+    for (place, name, bytes) in &FILES {
+        shelf.add(*place, name, bytes)?;
+    }
     Ok(shelf)
 }
 
+// One of which the first fetch fails, and the ninth.
 fn mem_shelf(alloc: Global) -> Result<MemShelf, AllocError> {
     let mut shelf = MemShelf::new(alloc);
-    shelf.add(Place::Work, b"empty", b"")?;
-    shelf.add(Place::Parts, b"3001.dat", b"old")?;
-    shelf.add(Place::P, b"3001.dat", b"xyz")?;
-    shelf.add(Place::Parts, b"3001.dat", b"abcd")?;
+    for (place, name, bytes) in &FILES {
+        shelf.add(*place, name, bytes)?;
+    }
     shelf.fail(9)?;
     shelf.fail(1)?;
     Ok(shelf)
 }
 
-#[test]
-fn shelves_give_the_newest_file(rt: HostRuntime) -> Result<(), AllocError> {
-    let alloc = rt.alloc();
-    let mut sure = sure_shelf(alloc)?;
-    let mut mem = mem_shelf(alloc)?;
-    let failed = "Parts 3001.dat 4 => Failed ";
-    assert!(rt; fetch_row_holds(alloc, &mut mem, failed), "first fetch");
-    for row in FETCHES.lines() {
-        assert!(rt; fetch_row_holds(alloc, &mut sure, row), "{row}");
-        assert!(rt; fetch_row_holds(alloc, &mut mem, row), "{row}");
+// The number of the first row that does not hold.
+fn wrong_fetch(alloc: Global, shelf: &mut impl Shelf) -> Option<usize> {
+    for (row, (place, name, max, want)) in FETCHES.iter().enumerate() {
+        if !is_shown(fetched(alloc, shelf, *place, name, *max), want) {
+            return Some(row);
+        }
     }
-    assert!(rt; fetch_row_holds(alloc, &mut mem, failed), "ninth fetch");
+    None
+}
+
+fn fetch_fails(alloc: Global, shelf: &mut MemShelf) -> bool {
+    is_shown(
+        fetched(alloc, shelf, Place::Parts, "3001.dat", 4),
+        "Failed ",
+    )
+}
+
+#[test]
+fn sure_shelves_give_the_newest_file(rt: HostRuntime) -> Result<(), AllocError> {
+    let mut shelf = sure_shelf(rt.alloc())?;
+    let wrong = wrong_fetch(rt.alloc(), &mut shelf);
+    assert!(rt; wrong.is_none(), "{wrong:?}");
+    Ok(())
+}
+
+#[test]
+fn listed_fetches_fail(rt: HostRuntime) -> Result<(), AllocError> {
+    let alloc = rt.alloc();
+    let mut shelf = mem_shelf(alloc)?;
+    assert!(rt; fetch_fails(alloc, &mut shelf), "first fetch");
+    let wrong = wrong_fetch(alloc, &mut shelf);
+    assert!(rt; wrong.is_none(), "{wrong:?}");
+    assert!(rt; fetch_fails(alloc, &mut shelf), "ninth fetch");
     Ok(())
 }
 
 // A call that is to fail and how many bytes it takes, and how three puts go, with the bytes taken.
-const PUTS: &str = "1 0 => failed ok ok cde\n\
-1 1 => failed ok ok acde\n\
-1 2 => failed ok ok acde\n\
-2 0 => ok ok ok abcde\n\
-3 0 => ok ok failed ab\n\
-3 1 => ok ok failed abc\n\
-3 2 => ok ok failed abcd\n\
-3 18446744073709551615 => ok ok failed abcd\n\
-4 0 => ok ok ok abcde";
+static PUTS: [(u64, u64, &str); 9] = [
+    (1, 0, "failed ok ok cde"),
+    (1, 1, "failed ok ok acde"),
+    (1, 2, "failed ok ok acde"),
+    (2, 0, "ok ok ok abcde"),
+    (3, 0, "ok ok failed ab"),
+    (3, 1, "ok ok failed abc"),
+    (3, 2, "ok ok failed abcd"),
+    (3, 18446744073709551615, "ok ok failed abcd"),
+    (4, 0, "ok ok ok abcde"),
+];
 
 fn put_word(sink: &mut impl Sink, piece: &[u8]) -> &'static str {
     match sink.put(piece) {
@@ -135,36 +143,36 @@ fn failing_sink(alloc: Global, call: u64, taken: u64) -> Result<MemSink, AllocEr
 
 fn put_thrice(alloc: Global, call: u64, taken: u64) -> Result<String, AllocError> {
     let mut sink = failing_sink(alloc, call, taken)?;
-    let first = put_word(&mut sink, b"ab");
-    let second = put_word(&mut sink, b"");
-    let third = put_word(&mut sink, b"cde");
+    puts_told(alloc, &mut sink)
+}
+
+fn puts_told(alloc: Global, sink: &mut MemSink) -> Result<String, AllocError> {
+    let first = put_word(sink, b"ab");
+    let second = put_word(sink, b"");
+    let third = put_word(sink, b"cde");
     let bytes = String::from_utf8_lossy(alloc, sink.bytes())?;
     format!(in alloc; "{first} {second} {third} {bytes}")
-}
-
-fn put_at(alloc: Global, fault: &str) -> Option<String> {
-    let (call, taken) = fault.split_once(' ')?;
-    let call = call.parse().ok()?;
-    let taken = taken.parse().ok()?;
-    put_thrice(alloc, call, taken).ok()
-}
-
-fn put_row_holds(alloc: Global, row: &str) -> bool {
-    let Some((fault, want)) = row.split_once(" => ") else {
-        return false;
-    };
-    is_shown(put_at(alloc, fault), want)
 }
 
 #[test]
 fn listed_puts_take_a_part(rt: HostRuntime) {
     let alloc = rt.alloc();
-    for row in PUTS.lines() {
-        assert!(rt; put_row_holds(alloc, row), "put {row}");
+    for (call, taken, want) in &PUTS {
+        assert!(rt;
+            is_shown(put_thrice(alloc, *call, *taken), want),
+            "put {call} {taken}"
+        );
     }
+}
+
+fn sure_sink_takes_all(alloc: Global) -> bool {
     let mut sink = SureSink::new(alloc);
-    assert!(rt; sink.put(b"ab").is_ok() && sink.put(b"c").is_ok());
-    assert!(rt; sink.bytes() == "abc".as_bytes());
+    sink.put(b"ab").is_ok() && sink.put(b"c").is_ok() && sink.bytes() == b"abc".as_slice()
+}
+
+#[test]
+fn sure_sinks_take_all(rt: HostRuntime) {
+    assert!(rt; sure_sink_takes_all(rt.alloc()));
 }
 
 // Reads or writes two bytes a call at most, and fails the call of one number.
@@ -220,39 +228,35 @@ impl Write for Slow<'_> {
 }
 
 // The most bytes, the read that fails and how, and what reading gives, with the bytes and the calls.
-const READS: &str = "5 0 Other => Ok(()) abcde 4\n\
-6 0 Other => Ok(()) abcde 4\n\
-4 0 Other => Err(TooBig) abcde 3\n\
-0 0 Other => Err(TooBig) a 1\n\
-5 1 Other => Err(Failed(Other))  1\n\
-5 2 Other => Err(Failed(Other)) ab 2\n\
-5 3 Other => Err(Failed(Other)) abcd 3\n\
-5 4 Other => Err(Failed(Other)) abcde 4\n\
-4 3 Other => Err(Failed(Other)) abcd 3\n\
-5 2 Interrupted => Ok(()) abcde 5";
+static READS: [(u32, u64, ErrorKind, &str); 10] = [
+    (5, 0, ErrorKind::Other, "Ok(()) abcde 4"),
+    (6, 0, ErrorKind::Other, "Ok(()) abcde 4"),
+    (4, 0, ErrorKind::Other, "Err(TooBig) abcde 3"),
+    (0, 0, ErrorKind::Other, "Err(TooBig) a 1"),
+    (5, 1, ErrorKind::Other, "Err(Failed(Other))  1"),
+    (5, 2, ErrorKind::Other, "Err(Failed(Other)) ab 2"),
+    (5, 3, ErrorKind::Other, "Err(Failed(Other)) abcd 3"),
+    (5, 4, ErrorKind::Other, "Err(Failed(Other)) abcde 4"),
+    (4, 3, ErrorKind::Other, "Err(Failed(Other)) abcd 3"),
+    (5, 2, ErrorKind::Interrupted, "Ok(()) abcde 5"),
+];
 
 // The write that fails and how, the piece, and what writing gives, with the bytes and the calls.
-const WRITES: &str = "0 Other abcde => Ok(()) abcde 3\n\
-1 Other  => Ok(())  0\n\
-1 Other abcde => Err(Failed)  1\n\
-2 Other abcde => Err(Failed) ab 2\n\
-3 Other abcde => Err(Failed) abcd 3\n\
-2 - abcde => Err(Failed) ab 2\n\
-2 Interrupted abcde => Ok(()) abcde 4";
-
-fn kind_of(word: &str) -> Option<ErrorKind> {
-    match word {
-        "Other" => Some(ErrorKind::Other),
-        "Interrupted" => Some(ErrorKind::Interrupted),
-        _ => None,
-    }
-}
+static WRITES: [(u64, Option<ErrorKind>, &str, &str); 7] = [
+    (0, Some(ErrorKind::Other), "abcde", "Ok(()) abcde 3"),
+    (1, Some(ErrorKind::Other), "", "Ok(())  0"),
+    (1, Some(ErrorKind::Other), "abcde", "Err(Failed)  1"),
+    (2, Some(ErrorKind::Other), "abcde", "Err(Failed) ab 2"),
+    (3, Some(ErrorKind::Other), "abcde", "Err(Failed) abcd 3"),
+    (2, None, "abcde", "Err(Failed) ab 2"),
+    (2, Some(ErrorKind::Interrupted), "abcde", "Ok(()) abcde 4"),
+];
 
 fn read_slowly(
     alloc: Global,
     max: u32,
     failing: u64,
-    kind: Option<ErrorKind>,
+    kind: ErrorKind,
 ) -> Result<String, AllocError> {
     let (mut into, mut written, mut calls) = (Vec::new(alloc), Vec::new(alloc), 0);
     let reader = Slow {
@@ -260,7 +264,7 @@ fn read_slowly(
         written: &mut written,
         calls: &mut calls,
         failing,
-        kind,
+        kind: Some(kind),
     };
     let got = read_whole(reader, u64::from(max), &mut into);
     let bytes = String::from_utf8_lossy(alloc, into.as_slice())?;
@@ -287,41 +291,15 @@ fn write_slowly(
     format!(in alloc; "{got:?} {bytes} {calls}")
 }
 
-fn read_at(alloc: Global, fault: &str) -> Option<String> {
-    let (max, call) = fault.split_once(' ')?;
-    let (failing, kind) = call.split_once(' ')?;
-    let max = max.parse().ok()?;
-    let failing = failing.parse().ok()?;
-    read_slowly(alloc, max, failing, kind_of(kind)).ok()
-}
-
-fn read_row_holds(alloc: Global, row: &str) -> bool {
-    let Some((fault, want)) = row.split_once(" => ") else {
-        return false;
-    };
-    is_shown(read_at(alloc, fault), want)
-}
-
-fn write_at(alloc: Global, fault: &str) -> Option<String> {
-    let (failing, rest) = fault.split_once(' ')?;
-    let (kind, piece) = rest.split_once(' ')?;
-    let failing = failing.parse().ok()?;
-    write_slowly(alloc, piece, failing, kind_of(kind)).ok()
-}
-
-fn write_row_holds(alloc: Global, row: &str) -> bool {
-    let Some((fault, want)) = row.split_once(" => ") else {
-        return false;
-    };
-    is_shown(write_at(alloc, fault), want)
-}
-
 // Each read failed in turn, and one that a signal stopped.
 #[test]
 fn reads_fail_in_turn(rt: HostRuntime) {
     let alloc = rt.alloc();
-    for row in READS.lines() {
-        assert!(rt; read_row_holds(alloc, row), "read {row}");
+    for (max, failing, kind, want) in &READS {
+        assert!(rt;
+            is_shown(read_slowly(alloc, *max, *failing, *kind), want),
+            "{max} {want}"
+        );
     }
 }
 
@@ -329,8 +307,11 @@ fn reads_fail_in_turn(rt: HostRuntime) {
 #[test]
 fn writes_fail_in_turn(rt: HostRuntime) {
     let alloc = rt.alloc();
-    for row in WRITES.lines() {
-        assert!(rt; write_row_holds(alloc, row), "write {row}");
+    for (failing, kind, piece, want) in &WRITES {
+        assert!(rt;
+            is_shown(write_slowly(alloc, piece, *failing, *kind), want),
+            "{failing} {kind:?} {piece}"
+        );
     }
 }
 

@@ -6,112 +6,182 @@ ghost use Rattle.ld_names.specs.declared.file.Folder.TheVariants.{Model, P, Part
 ghost use Rattle.ld_names.specs.declared.name.NameError.TheVariants.{Control, Empty, NotRelative, TooLong};
 
 use crate::*;
+use std::alloc::{AllocError, Global};
 use std::cmp::Ordering;
-use std::test::Fail;
 
 // The worked example names, and more names.
-#[test]
-fn normal_forms(rt: HostRuntime) {
-    use NameError::{Control, Empty, NotRelative, TooLong};
-    let rows: [(&[u8], Result<&[u8], NameError>); 36] = [
-        (b"S\\3001S01.DAT", Ok(b"s/3001s01.dat")),
-        (b"s/3001s01.dat", Ok(b"s/3001s01.dat")),
-        (b" \t my Car.ldr\t ", Ok(b"my car.ldr")),
-        (b"48\\ 4-4Disc.dat", Ok(b"48/ 4-4disc.dat")),
-        (b"@AZ[\\`az{~", Ok(b"@az[/`az{~")),
-        (b"\xc3\x84\x80\xff.DAT", Ok(b"\xc3\x84\x80\xff.dat")),
-        (b"...", Ok(b"...")),
-        (b".a/..b/c..", Ok(b".a/..b/c..")),
-        (b"1:x", Ok(b"1:x")),
-        (b":x", Ok(b":x")),
-        (b"ab:c", Ok(b"ab:c")),
-        (&[b'A'; 255], Ok(&[b'a'; 255])),
-        (b"", Err(Empty)),
-        (b"  ", Err(Empty)),
-        (b" \t", Err(Empty)),
-        (&[b'a'; 256], Err(TooLong)),
-        (&[1; 256], Err(TooLong)),
-        (&[b'/'; 256], Err(TooLong)),
-        (b"C:\\x.dat", Err(NotRelative)),
-        (b"c:x", Err(NotRelative)),
-        (b"z:", Err(NotRelative)),
-        (b"../x.dat", Err(NotRelative)),
-        (b"a//b", Err(NotRelative)),
-        (b"a\\\\b", Err(NotRelative)),
-        (b"a/./b", Err(NotRelative)),
-        (b"a\\..", Err(NotRelative)),
-        (b".", Err(NotRelative)),
-        (b"..", Err(NotRelative)),
-        (b"/a", Err(NotRelative)),
-        (b"a/", Err(NotRelative)),
-        (b"../\x01", Err(NotRelative)),
-        (b"a\x01b", Err(Control)),
-        (b"a\tb", Err(Control)),
-        (b"\x00", Err(Control)),
-        (b"a\x1f", Err(Control)),
-        (b"a\x7f", Err(Control)),
-    ];
-    for (text, wanted) in rows {
-        match normal(rt.alloc(), text) {
-            Ok(name) => assert!(rt; wanted == Ok(name.bytes())),
-            Err(error) => assert!(rt; wanted == Err(error)),
-        }
-    }
-}
+static NAMES: [(&[u8], Result<&[u8], NameError>); 36] = [
+    (b"S\\3001S01.DAT", Ok(b"s/3001s01.dat")),
+    (b"s/3001s01.dat", Ok(b"s/3001s01.dat")),
+    (b" \t my Car.ldr\t ", Ok(b"my car.ldr")),
+    (b"48\\ 4-4Disc.dat", Ok(b"48/ 4-4disc.dat")),
+    (b"@AZ[\\`az{~", Ok(b"@az[/`az{~")),
+    (b"\xc3\x84\x80\xff.DAT", Ok(b"\xc3\x84\x80\xff.dat")),
+    (b"...", Ok(b"...")),
+    (b".a/..b/c..", Ok(b".a/..b/c..")),
+    (b"1:x", Ok(b"1:x")),
+    (b":x", Ok(b":x")),
+    (b"ab:c", Ok(b"ab:c")),
+    (&[b'A'; 255], Ok(&[b'a'; 255])),
+    (b"", Err(NameError::Empty)),
+    (b"  ", Err(NameError::Empty)),
+    (b" \t", Err(NameError::Empty)),
+    (&[b'a'; 256], Err(NameError::TooLong)),
+    (&[1; 256], Err(NameError::TooLong)),
+    (&[b'/'; 256], Err(NameError::TooLong)),
+    (b"C:\\x.dat", Err(NameError::NotRelative)),
+    (b"c:x", Err(NameError::NotRelative)),
+    (b"z:", Err(NameError::NotRelative)),
+    (b"../x.dat", Err(NameError::NotRelative)),
+    (b"a//b", Err(NameError::NotRelative)),
+    (b"a\\\\b", Err(NameError::NotRelative)),
+    (b"a/./b", Err(NameError::NotRelative)),
+    (b"a\\..", Err(NameError::NotRelative)),
+    (b".", Err(NameError::NotRelative)),
+    (b"..", Err(NameError::NotRelative)),
+    (b"/a", Err(NameError::NotRelative)),
+    (b"a/", Err(NameError::NotRelative)),
+    (b"../\x01", Err(NameError::NotRelative)),
+    (b"a\x01b", Err(NameError::Control)),
+    (b"a\tb", Err(NameError::Control)),
+    (b"\x00", Err(NameError::Control)),
+    (b"a\x1f", Err(NameError::Control)),
+    (b"a\x7f", Err(NameError::Control)),
+];
 
-fn file(rt: &HostRuntime, folder: Folder, name: &[u8]) -> Result<FileId, NameError> {
-    Ok(FileId {
-        folder,
-        name: normal(rt.alloc(), name)?,
-    })
+fn is_normal(alloc: Global, text: &[u8], wanted: Result<&[u8], NameError>) -> bool {
+    match normal(alloc, text) {
+        Ok(name) => wanted == Ok(name.bytes()),
+        Err(error) => wanted == Err(error),
+    }
 }
 
 #[test]
-fn files(rt: HostRuntime) -> Result<(), Fail> {
-    let part = file(&rt, Folder::Parts, b"s/3001s01.dat")?;
-    let rows: [(Folder, &[u8], Ordering); 7] = [
-        (Folder::Parts, b"S\\3001S01.DAT", Ordering::Equal),
-        (Folder::Parts, b"s/3001s01.da", Ordering::Greater),
-        (Folder::Parts, b"s/3001s01.dat1", Ordering::Less),
-        (Folder::Parts, b"s/3001s01.da\xff", Ordering::Less),
-        (Folder::Model, b"s/3001s01.dat", Ordering::Greater),
-        (Folder::Model, b"z", Ordering::Greater),
-        (Folder::P, b"a", Ordering::Less),
-    ];
-    for (folder, name, wanted) in rows {
-        let other = file(&rt, folder, name)?;
-        assert!(rt; part.cmp(&other) == wanted);
-        assert!(rt; (part == other) == (wanted == Ordering::Equal));
+fn normal_forms(rt: HostRuntime) {
+    let alloc = rt.alloc();
+    for (text, wanted) in &NAMES {
+        assert!(rt; is_normal(alloc, text, *wanted), "{text:?}");
     }
-    assert!(rt; part.copy(rt.alloc())? == part);
-    assert!(rt; part.name.copy(rt.alloc())? == part.name);
+}
+
+// Files, and how a part's name stands to each.
+static FILES: [(Folder, &[u8], Ordering); 7] = [
+    (Folder::Parts, b"S\\3001S01.DAT", Ordering::Equal),
+    (Folder::Parts, b"s/3001s01.da", Ordering::Greater),
+    (Folder::Parts, b"s/3001s01.dat1", Ordering::Less),
+    (Folder::Parts, b"s/3001s01.da\xff", Ordering::Less),
+    (Folder::Model, b"s/3001s01.dat", Ordering::Greater),
+    (Folder::Model, b"z", Ordering::Greater),
+    (Folder::P, b"a", Ordering::Less),
+];
+
+fn file(alloc: Global, folder: Folder, name: &[u8]) -> Result<FileId, NameError> {
+    let name = normal(alloc, name)?;
+    Ok(FileId { folder, name })
+}
+
+fn is_ordered(part: &FileId, other: &FileId, wanted: Ordering) -> bool {
+    part.cmp(other) == wanted && (part == other) == (wanted == Ordering::Equal)
+}
+
+fn file_row_holds(
+    alloc: Global,
+    part: &FileId,
+    folder: Folder,
+    name: &[u8],
+    wanted: Ordering,
+) -> bool {
+    match file(alloc, folder, name) {
+        Ok(other) => is_ordered(part, &other, wanted),
+        Err(_) => false,
+    }
+}
+
+fn is_copied(alloc: Global, file: &FileId) -> bool {
+    match file.copy(alloc) {
+        Ok(copy) => copy == *file,
+        Err(_) => false,
+    }
+}
+
+fn name_is_copied(alloc: Global, name: &Name) -> bool {
+    match name.copy(alloc) {
+        Ok(copy) => copy == *name,
+        Err(_) => false,
+    }
+}
+
+#[test]
+fn files(rt: HostRuntime) -> Result<(), NameError> {
+    let alloc = rt.alloc();
+    let part = file(alloc, Folder::Parts, b"s/3001s01.dat")?;
+    for (folder, name, wanted) in &FILES {
+        assert!(rt;
+            file_row_holds(alloc, &part, *folder, name, *wanted),
+            "{name:?}"
+        );
+    }
+    assert!(rt; is_copied(alloc, &part));
+    assert!(rt; name_is_copied(alloc, &part.name));
     Ok(())
+}
+
+// The folders in which a file is looked for, and how many of them there are.
+const ORDERS: [(Folder, u8, [Folder; 3]); 3] = [
+    (Folder::Model, 3, [Folder::Model, Folder::Parts, Folder::P]),
+    (Folder::Parts, 2, [Folder::Parts, Folder::P, Folder::P]),
+    (Folder::P, 2, [Folder::Parts, Folder::P, Folder::P]),
+];
+
+fn is_order(from: Folder, count: u8, list: [Folder; 3]) -> bool {
+    order(from) == Folders { count, list }
 }
 
 #[test]
 fn folders(rt: HostRuntime) {
-    use Folder::{Model, P, Parts};
-    let rows = [
-        (Model, 3, [Model, Parts, P]),
-        (Parts, 2, [Parts, P, P]),
-        (P, 2, [Parts, P, P]),
-    ];
-    for (from, count, list) in rows {
-        assert_eq!(rt; order(from), Folders { count, list });
+    for (from, count, list) in ORDERS {
+        assert!(rt; is_order(from, count, list), "{from:?}");
+    }
+}
+
+fn one_to_three(alloc: Global) -> Result<Bytes, AllocError> {
+    let mut list = List::from_slice(alloc, &[1u8, 2])?;
+    list.push(3)?;
+    Ok(list)
+}
+
+fn one_line(alloc: Global) -> Result<Lines, AllocError> {
+    let line = one_to_three(alloc)?;
+    let mut lines = List::new(alloc);
+    lines.push(List::from_vec(line.into_vec()))?;
+    Ok(lines)
+}
+
+fn is_new_empty(alloc: Global) -> bool {
+    let lines: Lines = List::new(alloc);
+    lines.as_slice().is_empty()
+}
+
+fn is_list(list: Result<Bytes, AllocError>, wanted: &[u8]) -> bool {
+    match list {
+        Ok(list) => list.as_slice() == wanted,
+        Err(_) => false,
+    }
+}
+
+fn is_one_line(lines: Result<Lines, AllocError>, wanted: &[u8]) -> bool {
+    match lines {
+        Ok(lines) => lines.as_slice().len() == 1 && lines.as_slice()[0].as_slice() == wanted,
+        Err(_) => false,
     }
 }
 
 #[test]
-fn lists(rt: HostRuntime) -> Result<(), Fail> {
-    let mut list = List::from_slice(rt.alloc(), &[1u8, 2])?;
-    list.push(3)?;
-    assert_eq!(rt; list.as_slice(), [1, 2, 3].as_slice());
-    let mut lines: Lines = List::new(rt.alloc());
-    assert!(rt; lines.as_slice().is_empty());
-    lines.push(List::from_vec(list.into_vec()))?;
-    assert_eq!(rt; lines.as_slice().len(), 1);
-    assert_eq!(rt; lines.as_slice()[0].as_slice(), [1, 2, 3].as_slice());
-    Ok(())
+fn lists(rt: HostRuntime) {
+    let alloc = rt.alloc();
+    assert!(rt; is_new_empty(alloc));
+    assert!(rt; is_list(one_to_three(alloc), &[1, 2, 3]));
+    assert!(rt; is_one_line(one_line(alloc), &[1, 2, 3]));
 }
 
 fn crosses_threads<T: Send + Sync>() {}
