@@ -1,10 +1,10 @@
 //! Parts and their findings.
-ghost use Rattle.std.specs.Prelude.{◌≡◌, [], ◌∷◌, codes};
+ghost use Rattle.std.specs.Prelude.{◌≡◌, ◌<◌, [], ◌∷◌, codes, length};
 ghost use Rattle.ld_check.specs.Findings.{findings_of};
 ghost use Rattle.ld_check.specs.Rows.{bad_findings, bad_lines, car_lines, file_of, found_at};
 
 use crate::{Finding, check};
-use ld_names::{FileId, Folder, Lines, List, normal};
+use ld_names::{Bytes, FileId, Folder, Lines, List, NameError, normal};
 use std::alloc::{AllocError, Global};
 use std::test::Fail;
 
@@ -16,12 +16,12 @@ fn findings_by_definition()
 {}
 
 // A good header; `@` stands for all of it, and `@3` for its third line.
-const HEADER: &str = "0 A part
-0 Name: bad.dat
-0 Author: A Builder
-0 !LDRAW_ORG Unofficial_Part
-0 !LICENSE Example licence
-0 BFC CERTIFY CCW";
+const HEADER: &str = "@1=0 A part
+@2=0 Name: bad.dat
+@3=0 Author: A Builder
+@4=0 !LDRAW_ORG Unofficial_Part
+@5=0 !LICENSE Example licence
+@6=0 BFC CERTIFY CCW";
 
 // A file, its lines, and the lines and rules that are found.
 const TEXTS: &str = "m.ldr => 1 101, 2 102, 3 104, 4 105, 5 106
@@ -92,42 +92,53 @@ bad.dat|@|2 24 0 0 0 1 0 0 \t|5 24 0 0 0 1 0 0 2 2 2 3 3 3 =>
 bad.dat|@|2 16 0 0 0 1 0 0|5 0 0 0 0 1 0 0 2 2 2 3 3 3|2 0X18 0 0 0 2 0 0 => 7 308, 8 308
 bad.dat|@|3 24 0 0 0 1 0 0 0 1 0|4 24 0 0 0 1 0 0 1 1 0 0 1 0|3 25 0 0 0 1 0 0 0 1 0 => 7 309, 8 309";
 
-fn push_line(alloc: Global, line: &str, into: &mut Lines) -> Result<(), Fail> {
+fn push_line(alloc: Global, line: &str, into: &mut Lines) -> Result<(), AllocError> {
     let line = line.replace(alloc, " I ", " 1 0 0 0 1 0 0 0 1 ")?;
-    into.push(List::from_slice(alloc, line.as_bytes())?)?;
-    Ok(())
+    into.push(List::from_slice(alloc, line.as_bytes())?)
 }
 
-// The lines that a piece of a row stands for.
-fn push_piece(alloc: Global, piece: &str, into: &mut Lines) -> Result<(), Fail> {
-    let Some(number) = piece.strip_prefix("@") else {
-        return push_line(alloc, piece, into);
-    };
-    for (before, line) in HEADER.lines().enumerate() {
-        let own = format!(in alloc; "{}", before + 1)?;
-        if number.is_empty() || number == own.as_str() {
-            push_line(alloc, line, into)?;
+// The header's lines of this mark.
+fn push_header(alloc: Global, mark: &str, into: &mut Lines) -> Result<(), AllocError> {
+    for line in HEADER.lines() {
+        if line.starts_with(mark) {
+            push_line(alloc, behind_mark(line), into)?;
         }
     }
     Ok(())
 }
 
-fn push_pieces(alloc: Global, pieces: &str, into: &mut Lines) -> Result<(), Fail> {
-    for piece in pieces.split("|") {
-        push_piece(alloc, piece, into)?;
+fn behind_mark(line: &str) -> &str {
+    match line.split_once("=") {
+        Some((_, line)) => line,
+        None => line,
     }
-    Ok(())
 }
 
-fn lines_of_row(alloc: Global, row: &str) -> Result<Lines, Fail> {
+// The lines that a piece of a row stands for.
+fn push_piece(alloc: Global, piece: &str, into: &mut Lines) -> Result<(), AllocError> {
+    if piece.starts_with("@") {
+        push_header(alloc, piece, into)
+    } else {
+        push_line(alloc, piece, into)
+    }
+}
+
+fn lines_of_pieces(alloc: Global, pieces: &str) -> Result<Lines, AllocError> {
     let mut lines = List::new(alloc);
-    if let Some((_, pieces)) = row.split_once("|") {
-        push_pieces(alloc, pieces, &mut lines)?;
+    for piece in pieces.split("|") {
+        push_piece(alloc, piece, &mut lines)?;
     }
     Ok(lines)
 }
 
-fn file_of_row(alloc: Global, row: &str) -> Result<FileId, Fail> {
+fn lines_of_row(alloc: Global, row: &str) -> Result<Lines, AllocError> {
+    match row.split_once("|") {
+        Some((_, pieces)) => lines_of_pieces(alloc, pieces),
+        None => Ok(List::new(alloc)),
+    }
+}
+
+fn file_of_row(alloc: Global, row: &str) -> Result<FileId, NameError> {
     let (name, _) = row.split_once("|").unwrap_or((row, ""));
     Ok(FileId {
         folder: Folder::Parts,
@@ -148,16 +159,34 @@ fn told(alloc: Global, findings: &[Finding]) -> Result<String, AllocError> {
     Ok(text)
 }
 
+fn found(alloc: Global, file: &FileId, lines: &[Bytes]) -> Result<String, AllocError>
+    requires { length lines.now < 100 }
+{
+    let findings = check(alloc, file, lines)?;
+    told(alloc, &findings)
+}
+
+// Whether the text's lines are less than 100, and what is found there is what is wanted.
+fn finds(alloc: Global, file: &FileId, text: &str, want: &str) -> Result<bool, AllocError> {
+    let lines = lines_of_row(alloc, text)?;
+    if lines.as_slice().len() >= 100 {
+        return Ok(false);
+    }
+    Ok(found(alloc, file, lines.as_slice())?.as_str() == want)
+}
+
+fn row_holds(alloc: Global, row: &str) -> Result<bool, NameError> {
+    let Some((text, want)) = row.split_once(" => ") else {
+        return Ok(false);
+    };
+    let file = file_of_row(alloc, text)?;
+    Ok(finds(alloc, &file, text, want)?)
+}
+
 #[test]
 fn parts_are_checked(rt: HostRuntime) -> Result<(), Fail> {
-    let alloc = rt.alloc();
     for row in TEXTS.lines() {
-        let (text, want) = row.split_once(" => ").ok_or("a row without =>")?;
-        let file = file_of_row(alloc, text)?;
-        let lines = lines_of_row(alloc, text)?;
-        assert!(rt; lines.as_slice().len() < 100);
-        let findings = check(alloc, &file, lines.as_slice())?;
-        assert_eq!(rt; told(alloc, &findings)?.as_str(), want, "{text}");
+        assert!(rt; row_holds(rt.alloc(), row)?, "{row}");
     }
     Ok(())
 }
