@@ -4,4 +4,6 @@ pub mod Drawn
 pub mod Listed
 pub mod Passing
 pub mod Past
+pub mod Sizes
+pub mod Spoken
 pub mod Whole

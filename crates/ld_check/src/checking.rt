@@ -1,12 +1,15 @@
-ghost use Rattle.std.specs.Prelude.{◌≡◌, ◌+◌, ◌++◌, ◌^◌, ◌<◌, IfOk, OnOk, length};
-ghost use Rattle.ld_check.specs.Findings.{findings_of};
+ghost use Rattle.std.specs.Prelude.{◌≡◌, ◌+◌, ◌++◌, ◌^◌, ◌<◌, ◌&&◌, IfOk, OnOk, length, not};
+ghost use Rattle.ld_line.specs.Reading.{line_of};
+ghost use Rattle.ld_check.specs.Findings.{findings_of, found};
 ghost use Rattle.ld_check.specs.Inside.AtLine.{missing_findings, said_findings, written_findings};
 ghost use Rattle.ld_check.specs.Inside.Passing.{ChecksLine};
+ghost use Rattle.ld_check.specs.Inside.Ranking.{place_of_rank};
+ghost use Rattle.ld_check.specs.Order.{is_below, is_body};
 
 use crate::finding::{Finding, note};
 use crate::geometry::{has_equal_points, is_bent_quad, is_straight_triangle, is_uneven_quad};
 use crate::header::check_header;
-use crate::order::is_below;
+use crate::order::{Rank, is_below};
 use crate::passed::Passed;
 use crate::said::{
     has_more_fields, is_edge_off_24, is_face_in_24, is_malformed, is_out_of_range,
@@ -62,15 +65,46 @@ fn check_line(
     ensures { OnOk result (ChecksLine file.now number bytes.now passed.old passed.new into.old.items into.new.items) }
 {
     let line = read_line(alloc, bytes)?;
-    let rank = passed.rank(number, bytes, &line);
+    check_read_line(alloc, file, number, bytes, &line, passed, into)
+}
+
+#[inline]
+fn check_read_line(
+    alloc: Global,
+    file: &FileId,
+    number: u32,
+    bytes: &[u8],
+    line: &Line,
+    passed: &mut Passed,
+    into: &mut Vec<Finding>,
+) -> Result<(), AllocError>
+    requires number { 0 < number }
+    requires line { line.now ≡ line_of bytes.now }
+    ensures { OnOk result (ChecksLine file.now number bytes.now passed.old passed.new into.old.items into.new.items) }
+{
+    let rank = passed.rank(number, bytes, line);
     check_header(alloc, file, number, bytes, into)?;
-    note(number, 107, passed.lacks_statement(&line), into)?;
-    note(number, 108, is_below(rank, passed.highest), into)?;
-    check_said(number, &line, into)?;
-    note(number, 306, passed.drawings.draw(&line)?, into)?;
-    check_written(number, bytes, &line, into)?;
-    passed.note(rank, &line);
+    check_place(number, rank, line, passed, into)?;
+    check_said(number, line, into)?;
+    note(number, 306, passed.drawings.draw(line)?, into)?;
+    check_written(number, bytes, line, into)?;
+    passed.note(rank, line);
     Ok(())
+}
+
+// The findings of where a line stands.
+#[inline]
+fn check_place(
+    number: u32,
+    rank: Option<Rank>,
+    line: &Line,
+    passed: &Passed,
+    into: &mut Vec<Finding>,
+) -> Result<(), AllocError>
+    ensures { OnOk result (into.new.items ≡ into.old.items ++ found number (107, is_body line.now && not passed.now.has_body && not passed.now.has_statement) ++ found number (108, is_below (place_of_rank rank) (place_of_rank passed.now.highest))) }
+{
+    note(number, 107, passed.lacks_statement(line), into)?;
+    note(number, 108, is_below(rank, passed.highest), into)
 }
 
 // The findings of what a line says by itself.

@@ -147,7 +147,7 @@ impl Found {
             ++ firsts self.old.blocks.items (block is_data name lines ∷ [])) }
         ensures seen { OnOk result (HasSeen self.new.seen self.new.blocks.items) }
     {
-        if self.seen.insert(is_data, name.copy(alloc)?)? {
+        if self.seen.insert_copy(alloc, is_data, &name)? {
             self.blocks.push(Block {
                 name,
                 lines,
@@ -206,10 +206,19 @@ fn lines_inside(alloc: Global, text: &[u8]) -> Result<(Lines, &[u8]), AllocError
     let mut rest = text;
     let mut lines = Vec::new(alloc);
     while let Some((line, more)) = line_inside(rest) {
-        lines.push(Bytes::from_slice(alloc, line)?)?;
+        push_line(alloc, line, &mut lines)?;
         rest = more;
     }
     Ok((Lines::from_vec(lines), rest))
+}
+
+#[inline]
+fn push_line(alloc: Global, line: &[u8], into: &mut Vec<Bytes>) -> Result<(), AllocError>
+    ensures { OnOk result (into.new.items ≡ into.old.items ++ line.now ∷ []) }
+{
+    let line = Bytes::from_slice(alloc, line)?;
+    into.push(line)?;
+    Ok(())
 }
 
 // The first line and the text behind it, unless that line begins or ends a block.

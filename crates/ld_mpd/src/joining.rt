@@ -1,9 +1,10 @@
-ghost use Rattle.std.specs.Prelude.{◌≡◌, ◌<◌, ◌^◌, ◌++◌, ◌&&◌, [], ◌∷◌, ℕ, IfErr, IfOk, List, Ok, OnOk, length};
+ghost use Rattle.std.specs.Prelude.{◌≡◌, ◌<◌, ◌^◌, ◌++◌, ◌&&◌, ◌||◌, [], ◌∷◌, ℕ, IfErr, IfOk, List, Ok, OnOk, length, not};
 ghost use Rattle.ld_line.specs.Word.{ended, is_one_line};
 ghost use Rattle.ld_names.specs.Normal.{normal_of};
 ghost use Rattle.ld_mpd.specs.Blocks.{are_inside, blocks_of, has_text, is_inside};
 ghost use Rattle.ld_mpd.specs.Joining.{IsRefusal, block_lines, first_bad, join_of, joined};
 ghost use Rattle.ld_mpd.specs.Laws.{AreNamed};
+ghost use Rattle.ld_mpd.specs.Seen.{Notes, has_seen};
 ghost use Rattle.ld_mpd.specs.declared.joining.JoinError.TheVariants.{Memory};
 
 use crate::block::Block;
@@ -67,14 +68,22 @@ fn first_bad(alloc: Global, blocks: &[Block]) -> Result<Option<u32>, AllocError>
     let mut before = 0u32;
     let mut rest = blocks;
     while let Some((block, more)) = rest.split_first() {
-        let is_new = seen.insert(block.is_data, block.name.copy(alloc)?)?;
-        if !is_new || !inside(block.lines.as_slice()) {
+        if is_bad(alloc, &mut seen, block)? {
             return Ok(Some(before + 1));
         }
         before += 1;
         rest = more;
     }
     Ok(None)
+}
+
+// Notes the block. Whether it cannot be joined behind those that were seen.
+fn is_bad(alloc: Global, seen: &mut Seen, block: &Block) -> Result<bool, AllocError>
+    ensures bad { IfOk result (λ is_bad. is_bad ≡ (has_seen seen.old block.now.is_data block.now.name || not (are_inside block.now.lines))) }
+    ensures noted { OnOk result (Notes seen.old seen.new block.now.is_data block.now.name) }
+{
+    let is_new = seen.insert_copy(alloc, block.is_data, &block.name)?;
+    Ok(!is_new || !inside(block.lines.as_slice()))
 }
 
 // Whether the lines can stand in a block.

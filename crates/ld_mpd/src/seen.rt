@@ -23,8 +23,22 @@ impl Seen {
         }
     }
 
-    // Notes the kind and the name. Whether they are new.
-    pub(crate) fn insert(&mut self, is_data: bool, name: Name) -> Result<bool, AllocError>
+    // Notes the kind and a copy of the name. Whether they are new.
+    pub(crate) fn insert_copy(
+        &mut self,
+        alloc: Global,
+        is_data: bool,
+        name: &Name,
+    ) -> Result<bool, AllocError>
+        ensures new { IfOk result (λ is_new. is_new ≡ not (has_seen self.old is_data name.now)) }
+        ensures noted { OnOk result (Notes self.old self.new is_data name.now) }
+        ensures same { IfOk result (λ is_new. OnFalse is_new (SeesSame self.old self.new)) }
+    {
+        let name = name.copy(alloc)?;
+        self.insert(is_data, name)
+    }
+
+    fn insert(&mut self, is_data: bool, name: Name) -> Result<bool, AllocError>
         ensures new { IfOk result (λ is_new. is_new ≡ not (has_seen self.old is_data name)) }
         ensures noted { OnOk result (Notes self.old self.new is_data name) }
         ensures same { IfOk result (λ is_new. OnFalse is_new (SeesSame self.old self.new)) }

@@ -137,14 +137,16 @@ fn has_text(alloc: Global, bytes: &[u8], wanted: &[u8]) -> bool {
     show_text(&mut shown, bytes).is_ok() && shown.as_slice() == wanted
 }
 
-// A block of one line, as `text x|0 NOFILE`.
-fn one_block(alloc: Global, part: &str) -> Option<Block> {
-    let (head, line) = part.split_once('|')?;
-    let (kind, name) = head.split_once(' ')?;
-    let name = normal(alloc, name.as_bytes()).ok()?;
+fn one_line(alloc: Global, line: &str) -> Option<Lines> {
     let line = file(alloc, line).ok()?;
     let mut lines = Lines::new(alloc);
     lines.push(Bytes::from_vec(line)).ok()?;
+    Some(lines)
+}
+
+fn block_of(alloc: Global, kind: &str, name: &str, line: &str) -> Option<Block> {
+    let name = normal(alloc, name.as_bytes()).ok()?;
+    let lines = one_line(alloc, line)?;
     Some(Block {
         name,
         lines,
@@ -152,10 +154,22 @@ fn one_block(alloc: Global, part: &str) -> Option<Block> {
     })
 }
 
+// A block of one line, as `text x|0 NOFILE`.
+fn one_block(alloc: Global, part: &str) -> Option<Block> {
+    let (head, line) = part.split_once('|')?;
+    let (kind, name) = head.split_once(' ')?;
+    block_of(alloc, kind, name, line)
+}
+
+fn push_block(alloc: Global, part: &str, into: &mut Vec<Block>) -> Option<()> {
+    let block = one_block(alloc, part)?;
+    into.push(block).ok()
+}
+
 fn few_blocks(alloc: Global, parts: &str) -> Option<Vec<Block>> {
     let mut blocks = Vec::new(alloc);
     for part in parts.split(';') {
-        blocks.push(one_block(alloc, part)?).ok()?;
+        push_block(alloc, part, &mut blocks)?;
     }
     Some(blocks)
 }

@@ -14,4 +14,8 @@ after old text middle new is extends = record { more = text ++ extends.more; is 
 pub through : (old middle new : List ℕ) → Extends old middle → Extends middle new → Extends old new
 through old middle new first second = after old first.more middle new first.is second
 
+-- one text more
+pub put : {before whole new : List ℕ} (text : List ℕ) → new ≡ before ++ text → before ≡ whole → new ≡ whole ++ text
+put text is so = is ∙ ap (λ list. list ++ text) so
+
 pub ruleset extending = (same, appended, after)

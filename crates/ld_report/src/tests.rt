@@ -5,11 +5,12 @@ use ld_check::Finding;
 use ld_colour::{Colour, Table};
 use ld_entry::{Entry, Fault, Source, What};
 use ld_line::{Kind, Line, RotWord, Winding, lines_of, read_line};
-use ld_names::{FileId, Folder, List, TextId, normal};
+use ld_names::{FileId, Folder, Lines, List, TextId, normal};
 use ld_num::Point;
 use ld_steps::{StepPart, Turn};
 use ld_texts::Texts;
-use std::alloc::Global;
+use std::alloc::{AllocError, Global};
+use std::num::ParseIntError;
 use std::test::Fail;
 
 const COLOURS: &[u8] = b"0 !COLOUR Red CODE 4 VALUE #C91A09 EDGE #333333\n\
@@ -81,7 +82,18 @@ const STEPS: &str =
 3..6|0 ROTSTEP 1.5 -2 .25 ABS => step 7 entries 3 view abs:1.5,-2,0.25/ line 16 - nocert clip ccw 0,0,0 2,0,0 model/my car.ldr:8/ 
 5..7| => step 8 entries 2 view -/ ";
 
-fn learn(
+fn learn(texts: &mut Texts, file: &FileId, lines: Lines) -> Result<(), Fail> {
+    if texts.id(file).is_some() {
+        return Err("known already".into());
+    }
+    let Ok(ready) = texts.prepare_file(file, Some(lines)) else {
+        return Err("not learnt".into());
+    };
+    let _ = texts.commit(ready);
+    Ok(())
+}
+
+fn learn_at(
     alloc: Global,
     texts: &mut Texts,
     folder: Folder,
@@ -89,39 +101,34 @@ fn learn(
     bytes: &[u8],
 ) -> Result<(), Fail> {
     let name = normal(alloc, name.as_bytes())?;
-    let file = FileId { folder, name };
-    if texts.id(&file).is_some() {
-        return Err("known already".into());
-    }
-    let Ok(ready) = texts.prepare_file(&file, Some(lines_of(alloc, bytes)?)) else {
-        return Err("not learnt".into());
-    };
-    let _ = texts.commit(ready);
-    Ok(())
+    let lines = lines_of(alloc, bytes)?;
+    learn(texts, &FileId { folder, name }, lines)
 }
 
 fn known(alloc: Global) -> Result<Texts, Fail> {
     let mut texts = Texts::new(alloc, 9, 10_000);
-    learn(alloc, &mut texts, Folder::Model, "My Car.ldr", MODEL)?;
-    learn(alloc, &mut texts, Folder::Parts, "3001.dat", b"0")?;
-    learn(alloc, &mut texts, Folder::P, "stud.dat", b"0")?;
+    learn_at(alloc, &mut texts, Folder::Model, "My Car.ldr", MODEL)?;
+    learn_at(alloc, &mut texts, Folder::Parts, "3001.dat", b"0")?;
+    learn_at(alloc, &mut texts, Folder::P, "stud.dat", b"0")?;
     Ok(texts)
 }
 
-fn colour_of(word: &str) -> Result<Colour, Fail> {
-    if word == "m" {
-        return Ok(Colour::Main);
+fn colour_of(word: &str) -> Result<Colour, ParseIntError> {
+    match word {
+        "m" => Ok(Colour::Main),
+        "E" => Ok(Colour::Edge),
+        _ => coded(word),
     }
-    if word == "E" {
-        return Ok(Colour::Edge);
-    }
+}
+
+fn coded(word: &str) -> Result<Colour, ParseIntError> {
     if let Some(code) = word.strip_prefix("e") {
         return Ok(Colour::EdgeOf(code.parse::<u32>()?));
     }
-    match word.strip_prefix("d") {
-        Some(value) => Ok(Colour::Direct(value.parse::<u32>()?)),
-        None => Ok(Colour::Code(word.parse::<u32>()?)),
+    if let Some(value) = word.strip_prefix("d") {
+        return Ok(Colour::Direct(value.parse::<u32>()?));
     }
+    Ok(Colour::Code(word.parse::<u32>()?))
 }
 
 #[derive(Clone, Copy)]
@@ -148,62 +155,89 @@ fn read_shown(line: Line) -> Shown {
     }
 }
 
-fn source_of(text: &str, line: &str) -> Result<Source, Fail> {
+fn source_of(text: &str, line: &str) -> Result<Source, ParseIntError> {
     Ok(Source {
         text: TextId(text.parse::<u32>()?),
         line: line.parse::<u32>()?,
     })
 }
 
-fn entry_of(alloc: Global, row: &str) -> Result<Entry, Fail> {
-    let (word, row) = row.split_once("|").ok_or("no colour")?;
-    let (culling, row) = row.split_once("|").ok_or("no culling")?;
-    let (text, row) = row.split_once("|").ok_or("no text")?;
-    let (line, what) = row.split_once("|").ok_or("no line")?;
-    let source = source_of(text, line)?;
-    entry_at(alloc, culling, colour_of(word)?, source, what)
+fn cut<'a>(row: &'a str, at: &str) -> Result<(&'a str, &'a str), Fail> {
+    match row.split_once(at) {
+        Some(parts) => Ok(parts),
+        None => Err("a row is not cut".into()),
+    }
 }
 
-fn entry_at(
-    alloc: Global,
-    culling: &str,
-    colour: Colour,
-    source: Source,
-    what: &str,
-) -> Result<Entry, Fail> {
-    let winding = if culling.ends_with(" cw") {
+fn entry_of(alloc: Global, row: &str) -> Result<Entry, Fail> {
+    let (colour, row) = cut(row, "|")?;
+    let (culling, row) = cut(row, "|")?;
+    entry_at(alloc, colour_of(colour)?, culling, row)
+}
+
+fn entry_at(alloc: Global, colour: Colour, culling: &str, row: &str) -> Result<Entry, Fail> {
+    let (text, row) = cut(row, "|")?;
+    let (line, what) = cut(row, "|")?;
+    shown_at(alloc, colour, culling, source_of(text, line)?, what)
+}
+
+fn winding_of(culling: &str) -> Winding {
+    if culling.ends_with(" cw") {
         Winding::Cw
     } else {
         Winding::Ccw
-    };
-    let Shown::Drawn(kind, points) = read_shown(read_line(alloc, what.as_bytes())?) else {
-        let file = TextId(what.parse::<u32>()?);
-        return Ok(Entry::Part {
-            file,
+    }
+}
+
+fn shown_at(
+    alloc: Global,
+    colour: Colour,
+    culling: &str,
+    source: Source,
+    what: &str,
+) -> Result<Entry, Fail> {
+    match read_shown(read_line(alloc, what.as_bytes())?) {
+        Shown::Drawn(kind, points) => Ok(Entry::Drawn {
+            kind,
+            certified: culling.starts_with("cert"),
+            clip: culling.contains(" clip"),
+            winding: winding_of(culling),
             colour,
             source,
-        });
-    };
-    Ok(Entry::Drawn {
-        kind,
-        certified: culling.starts_with("cert"),
-        clip: culling.contains(" clip"),
-        winding,
-        colour,
-        source,
-        points,
-    })
+            points,
+        }),
+        Shown::Other => Ok(Entry::Part {
+            file: TextId(what.parse::<u32>()?),
+            colour,
+            source,
+        }),
+    }
+}
+
+// What all is printed behind.
+const BEFORE: &[u8] = b"x";
+
+fn append_line(line: &str, into: &mut Vec<u8>) -> Result<(), AllocError> {
+    if line.is_empty() {
+        return Ok(());
+    }
+    into.extend_from_slice(line.as_bytes())?;
+    into.push(b'\n')?;
+    Ok(())
 }
 
 // The lines of a row, each ended by a line feed.
-fn append_lines(row: &str, into: &mut Vec<u8>) -> Result<(), Fail> {
+fn append_lines(row: &str, into: &mut Vec<u8>) -> Result<(), AllocError> {
     for line in row.split("/ ") {
-        if !line.is_empty() {
-            into.extend_from_slice(line.as_bytes())?;
-            into.push(b'\n')?;
-        }
+        append_line(line, into)?;
     }
     Ok(())
+}
+
+fn is_printed(alloc: Global, printed: &[u8], lines: &str) -> Result<bool, AllocError> {
+    let mut wanted = Vec::from_slice(alloc, BEFORE)?;
+    append_lines(lines, &mut wanted)?;
+    Ok(printed == wanted.as_slice())
 }
 
 fn table_of(alloc: Global) -> Result<Table, Fail> {
@@ -213,18 +247,18 @@ fn table_of(alloc: Global) -> Result<Table, Fail> {
     }
 }
 
-fn append_entry_row(
-    alloc: Global,
-    texts: &Texts,
-    table: &Table,
-    row: &str,
-    printed: &mut Vec<u8>,
-    wanted: &mut Vec<u8>,
-) -> Result<(), Fail> {
+fn printed_entry(alloc: Global, texts: &Texts, table: &Table, row: &str) -> Result<Vec<u8>, Fail> {
     let _: [Point; 0] = NO_POINTS;
-    let (entry, want) = row.split_once(" => ").ok_or("a row without =>")?;
-    print_entry(texts, table, &entry_of(alloc, entry)?, printed)?;
-    append_lines(want, wanted)
+    let entry = entry_of(alloc, row)?;
+    let mut printed = Vec::from_slice(alloc, BEFORE)?;
+    print_entry(texts, table, &entry, &mut printed)?;
+    Ok(printed)
+}
+
+fn entry_holds(alloc: Global, texts: &Texts, table: &Table, row: &str) -> Result<bool, Fail> {
+    let (entry, want) = cut(row, " => ")?;
+    let printed = printed_entry(alloc, texts, table, entry)?;
+    Ok(is_printed(alloc, printed.as_slice(), want)?)
 }
 
 #[test]
@@ -232,42 +266,36 @@ fn entries_are_printed(rt: HostRuntime) -> Result<(), Fail> {
     let alloc = rt.alloc();
     let texts = known(alloc)?;
     let table = table_of(alloc)?;
-    let mut printed = Vec::new(alloc);
-    let mut wanted = Vec::new(alloc);
     for row in ENTRIES.lines() {
-        append_entry_row(alloc, &texts, &table, row, &mut printed, &mut wanted)?;
+        assert!(rt; entry_holds(alloc, &texts, &table, row)?, "{row}");
     }
-    assert_eq!(rt; printed.as_slice(), wanted.as_slice());
     Ok(())
 }
 
-fn append_fault_row(
-    texts: &Texts,
-    what: What,
-    row: Option<&str>,
-    printed: &mut Vec<u8>,
-    wanted: &mut Vec<u8>,
-) -> Result<(), Fail> {
-    let row = row.ok_or("too few rows")?;
-    let (source, want) = row.split_once(" => ").ok_or("a row without =>")?;
-    let (text, line) = source.split_once("|").ok_or("no line")?;
+fn printed_fault(alloc: Global, texts: &Texts, what: What, row: &str) -> Result<Vec<u8>, Fail> {
+    let (text, line) = cut(row, "|")?;
     let source = source_of(text, line)?;
-    print_fault(texts, &Fault { what, source }, printed)?;
-    append_lines(want, wanted)
+    let mut printed = Vec::from_slice(alloc, BEFORE)?;
+    print_fault(texts, &Fault { what, source }, &mut printed)?;
+    Ok(printed)
+}
+
+fn fault_holds(alloc: Global, texts: &Texts, what: What, row: &str) -> Result<bool, Fail> {
+    let (source, want) = cut(row, " => ")?;
+    let printed = printed_fault(alloc, texts, what, source)?;
+    Ok(is_printed(alloc, printed.as_slice(), want)?)
 }
 
 #[test]
 fn faults_are_printed(rt: HostRuntime) -> Result<(), Fail> {
     let alloc = rt.alloc();
     let texts = known(alloc)?;
-    let mut printed = Vec::new(alloc);
-    let mut wanted = Vec::new(alloc);
     let mut rows = FAULTS.lines();
     for what in WHATS {
-        append_fault_row(&texts, what, rows.next(), &mut printed, &mut wanted)?;
+        let row = rows.next().unwrap_or("no row");
+        assert!(rt; fault_holds(alloc, &texts, what, row)?, "{row}");
     }
     assert!(rt; rows.next().is_none());
-    assert_eq!(rt; printed.as_slice(), wanted.as_slice());
     Ok(())
 }
 
@@ -279,11 +307,18 @@ fn used(alloc: Global, word: &str) -> Result<Entry, Fail> {
     entry_of(alloc, row.as_str())
 }
 
+fn push_use(alloc: Global, word: &str, into: &mut Vec<Entry>) -> Result<(), Fail> {
+    let _: [Point; 0] = NO_POINTS;
+    let entry = used(alloc, word)?;
+    into.push(entry)?;
+    Ok(())
+}
+
 fn uses_of(alloc: Global, uses: &str) -> Result<Vec<Entry>, Fail> {
     let _: [Point; 0] = NO_POINTS;
     let mut entries = Vec::new(alloc);
     for word in uses.split(" ") {
-        entries.push(used(alloc, word)?)?;
+        push_use(alloc, word, &mut entries)?;
     }
     Ok(entries)
 }
@@ -295,17 +330,15 @@ fn printed_parts(alloc: Global, texts: &Texts, uses: &str) -> Result<Vec<u8>, Fa
         return Err("too many uses".into());
     }
     let parts = parts_list(alloc, entries.as_slice())?;
-    let mut printed = Vec::new(alloc);
+    let mut printed = Vec::from_slice(alloc, BEFORE)?;
     print_parts(texts, &parts, &mut printed)?;
     Ok(printed)
 }
 
 fn parts_hold(alloc: Global, texts: &Texts, row: &str) -> Result<bool, Fail> {
-    let (uses, want) = row.split_once(" => ").ok_or("a row without =>")?;
+    let (uses, want) = cut(row, " => ")?;
     let printed = printed_parts(alloc, texts, uses)?;
-    let mut wanted = Vec::new(alloc);
-    append_lines(want, &mut wanted)?;
-    Ok(printed.as_slice() == wanted.as_slice())
+    Ok(is_printed(alloc, printed.as_slice(), want)?)
 }
 
 #[test]
@@ -350,68 +383,96 @@ fn turn_in(line: Line) -> Option<Turn> {
     }
 }
 
-fn view_of(alloc: Global, lines: &str) -> Result<List<Turn>, Fail> {
+fn push_turn(alloc: Global, line: &str, into: &mut List<Turn>) -> Result<(), AllocError> {
+    match turn_in(read_line(alloc, line.as_bytes())?) {
+        Some(turn) => into.push(turn),
+        None => Ok(()),
+    }
+}
+
+fn view_of(alloc: Global, lines: &str) -> Result<List<Turn>, AllocError> {
     let mut view = List::new(alloc);
     for line in lines.split("; ") {
-        if let Some(turn) = turn_in(read_line(alloc, line.as_bytes())?) {
-            view.push(turn)?;
-        }
+        push_turn(alloc, line, &mut view)?;
     }
     Ok(view)
 }
 
 fn step_of(alloc: Global, row: &str) -> Result<StepPart, Fail> {
-    let (range, turns) = row.split_once("|").ok_or("no turns")?;
-    let (first, end) = range.split_once("..").ok_or("no range")?;
+    let (range, turns) = cut(row, "|")?;
+    let (first, end) = cut(range, "..")?;
     let first = first.parse::<u32>()?;
     let end = end.parse::<u32>()?;
     let view = view_of(alloc, turns)?;
     Ok(StepPart { first, end, view })
 }
 
+fn push_entry(alloc: Global, row: &str, into: &mut Vec<Entry>) -> Result<(), Fail> {
+    let _: [Point; 0] = NO_POINTS;
+    let entry = entry_of(alloc, row)?;
+    into.push(entry)?;
+    Ok(())
+}
+
 fn stepped(alloc: Global) -> Result<Vec<Entry>, Fail> {
     let _: [Point; 0] = NO_POINTS;
     let mut entries = Vec::new(alloc);
     for row in STEPPED.lines() {
-        entries.push(entry_of(alloc, row)?)?;
+        push_entry(alloc, row, &mut entries)?;
     }
     Ok(entries)
 }
 
-// The steps, and the lines that are wanted of them.
+// A row's step, and the lines that are wanted of it.
+fn push_step(
+    alloc: Global,
+    row: &str,
+    steps: &mut Vec<StepPart>,
+    wanted: &mut Vec<u8>,
+) -> Result<(), Fail> {
+    let (step, want) = cut(row, " => ")?;
+    let step = step_of(alloc, step)?;
+    steps.push(step)?;
+    append_lines(want, wanted)?;
+    Ok(())
+}
+
 fn steps_of(alloc: Global, wanted: &mut Vec<u8>) -> Result<Vec<StepPart>, Fail> {
     let mut steps = Vec::new(alloc);
     for row in STEPS.lines() {
-        let (step, want) = row.split_once(" => ").ok_or("a row without =>")?;
-        steps.push(step_of(alloc, step)?)?;
-        append_lines(want, wanted)?;
+        push_step(alloc, row, &mut steps, wanted)?;
     }
     Ok(steps)
+}
+
+fn printed_steps(alloc: Global, steps: &[StepPart]) -> Result<Vec<u8>, Fail> {
+    let texts = known(alloc)?;
+    let table = Table::empty(alloc);
+    let entries = stepped(alloc)?;
+    let mut printed = Vec::from_slice(alloc, BEFORE)?;
+    print_steps(&texts, &table, entries.as_slice(), steps, &mut printed)?;
+    Ok(printed)
 }
 
 #[test]
 fn steps_are_printed(rt: HostRuntime) -> Result<(), Fail> {
     let alloc = rt.alloc();
-    let texts = known(alloc)?;
-    let table = Table::empty(alloc);
-    let entries = stepped(alloc)?;
-    let mut wanted = Vec::new(alloc);
+    let mut wanted = Vec::from_slice(alloc, BEFORE)?;
     let steps = steps_of(alloc, &mut wanted)?;
-    let mut printed = Vec::new(alloc);
-    print_steps(
-        &texts,
-        &table,
-        entries.as_slice(),
-        steps.as_slice(),
-        &mut printed,
-    )?;
-    assert_eq!(rt; printed.as_slice(), wanted.as_slice());
+    let printed = printed_steps(alloc, steps.as_slice())?;
+    assert!(rt; printed.as_slice() == wanted.as_slice());
     Ok(())
+}
+
+fn printed_findings(alloc: Global, findings: &[Finding]) -> Result<Vec<u8>, AllocError> {
+    let mut printed = Vec::from_slice(alloc, BEFORE)?;
+    print_findings(findings, &mut printed)?;
+    print_findings(&[], &mut printed)?;
+    Ok(printed)
 }
 
 #[test]
 fn findings_are_printed(rt: HostRuntime) -> Result<(), Fail> {
-    let alloc = rt.alloc();
     let findings = [
         Finding { line: 2, rule: 103 },
         Finding {
@@ -419,9 +480,7 @@ fn findings_are_printed(rt: HostRuntime) -> Result<(), Fail> {
             rule: 309,
         },
     ];
-    let mut printed = Vec::from_slice(alloc, b"x".as_slice())?;
-    print_findings(&findings, &mut printed)?;
-    print_findings(&[], &mut printed)?;
-    assert_eq!(rt; printed.as_slice(), b"x2 103\n4294967290 309\n".as_slice());
+    let printed = printed_findings(rt.alloc(), &findings)?;
+    assert!(rt; printed.as_slice() == b"x2 103\n4294967290 309\n".as_slice());
     Ok(())
 }

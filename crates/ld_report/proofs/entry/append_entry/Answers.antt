@@ -5,7 +5,7 @@ use Rattle.ld_colour.specs.Table.{counting, rgb_in}
 use Rattle.ld_texts.specs.Known.{file_at}
 use Rattle.ld_report.specs.Entries.{entry_text}
 use Rattle.ld_report.specs.Pieces.{certified_text, clip_text, colour_text, kind_text, numbered_text, point_text, rgb_text, source_text, winding_text}
-use Rattle.ld_report.proofs.Extending.{appended}
+use Rattle.ld_report.proofs.Extending.{after, appended, same, through}
 use Rattle.ld_report.proofs.Lines.{drawn_line, part_line}
 use Rattle.ld_report.proofs.entry.append_entry.Goals as goal
 
@@ -41,3 +41,24 @@ returns-in_ok-end_line-in-Drawn-clause-keeps c = appended _ _ _ (returns-in_ok-e
 
 pub returns-in_ok-end_line-in-Part-clause-keeps : goal.returns-in_ok-end_line-in-Part-clause-keeps
 returns-in_ok-end_line-in-Part-clause-keeps c = appended _ _ _ (returns-in_ok-end_line-in-Part-clause-ok c)
+
+pub returns-in_err-print_head-in-Drawn-clause-keeps : goal.returns-in_err-print_head-in-Drawn-clause-keeps
+returns-in_err-print_head-in-Drawn-clause-keeps c = c.in_err-print_head-in-Drawn.ensures.keeps
+
+pub returns-in_err-extend_from_slice-in-Drawn-clause-keeps : goal.returns-in_err-extend_from_slice-in-Drawn-clause-keeps
+returns-in_err-extend_from_slice-in-Drawn-clause-keeps c = through _ _ _ c.in_ok-print_head-in-Drawn.ensures.keeps (same _ _ c.in_err-extend_from_slice-in-Drawn.ensures.items)
+
+pub returns-in_err-print_points-in-Drawn-clause-keeps : goal.returns-in_err-print_points-in-Drawn-clause-keeps
+returns-in_err-print_points-in-Drawn-clause-keeps c = through _ _ _ c.in_ok-print_head-in-Drawn.ensures.keeps (after _ _ _ _ c.in_ok-extend_from_slice-in-Drawn.ensures.items c.in_err-print_points-in-Drawn.ensures.keeps)
+
+pub returns-in_err-end_line-in-Drawn-clause-keeps : goal.returns-in_err-end_line-in-Drawn-clause-keeps
+returns-in_err-end_line-in-Drawn-clause-keeps c = through _ _ _ c.in_ok-print_head-in-Drawn.ensures.keeps (after _ _ _ _ c.in_ok-extend_from_slice-in-Drawn.ensures.items (through _ _ _ c.in_ok-print_points-in-Drawn.ensures.keeps c.in_err-end_line-in-Drawn.ensures.keeps))
+
+pub returns-in_err-print_head-in-Part-clause-keeps : goal.returns-in_err-print_head-in-Part-clause-keeps
+returns-in_err-print_head-in-Part-clause-keeps c = c.in_err-print_head-in-Part.ensures.keeps
+
+pub returns-in_err-print_part-in-Part-clause-keeps : goal.returns-in_err-print_part-in-Part-clause-keeps
+returns-in_err-print_part-in-Part-clause-keeps c = through _ _ _ c.in_ok-print_head-in-Part.ensures.keeps c.in_err-print_part-in-Part.ensures.keeps
+
+pub returns-in_err-end_line-in-Part-clause-keeps : goal.returns-in_err-end_line-in-Part-clause-keeps
+returns-in_err-end_line-in-Part-clause-keeps c = through _ _ _ c.in_ok-print_head-in-Part.ensures.keeps (through _ _ _ c.in_ok-print_part-in-Part.ensures.keeps c.in_err-end_line-in-Part.ensures.keeps)

@@ -3,7 +3,7 @@ use Rattle.std.specs.List.{flat_map}
 use Rattle.ld_texts.specs.Known.{line_at}
 use Rattle.ld_report.specs.Entries.{fault_text, named_words, what_text}
 use Rattle.ld_report.specs.Pieces.{source_text}
-use Rattle.ld_report.proofs.Extending.{appended}
+use Rattle.ld_report.proofs.Extending.{after, appended, same, through}
 use Rattle.ld_report.proofs.Lines.{fault_line}
 use Rattle.ld_report.proofs.fault.append_fault.Goals as goal
 
@@ -23,3 +23,18 @@ returns-clause-ok c =
 
 pub returns-clause-keeps : goal.returns-clause-keeps
 returns-clause-keeps c = appended _ _ _ (returns-clause-ok c)
+
+pub returns-in_err-extend_from_slice-clause-keeps : goal.returns-in_err-extend_from_slice-clause-keeps
+returns-in_err-extend_from_slice-clause-keeps c = same _ _ c.in_err-extend_from_slice.ensures.items
+
+pub returns-in_err-extend_from_slice-2-clause-keeps : goal.returns-in_err-extend_from_slice-2-clause-keeps
+returns-in_err-extend_from_slice-2-clause-keeps c = after _ _ _ _ c.in_ok-extend_from_slice.ensures.items (same _ _ c.in_err-extend_from_slice-2.ensures.items)
+
+pub returns-in_err-print_source-clause-keeps : goal.returns-in_err-print_source-clause-keeps
+returns-in_err-print_source-clause-keeps c = after _ _ _ _ c.in_ok-extend_from_slice.ensures.items (after _ _ _ _ c.in_ok-extend_from_slice-2.ensures.items c.in_err-print_source.ensures.keeps)
+
+pub returns-in_err-print_named-clause-keeps : goal.returns-in_err-print_named-clause-keeps
+returns-in_err-print_named-clause-keeps c = after _ _ _ _ c.in_ok-extend_from_slice.ensures.items (after _ _ _ _ c.in_ok-extend_from_slice-2.ensures.items (through _ _ _ c.in_ok-print_source.ensures.keeps c.in_err-print_named.ensures.keeps))
+
+pub returns-in_err-push-clause-keeps : goal.returns-in_err-push-clause-keeps
+returns-in_err-push-clause-keeps c = after _ _ _ _ c.in_ok-extend_from_slice.ensures.items (after _ _ _ _ c.in_ok-extend_from_slice-2.ensures.items (through _ _ _ c.in_ok-print_source.ensures.keeps (through _ _ _ c.in_ok-print_named.ensures.keeps (same _ _ c.in_err-push.ensures.items))))
