@@ -1,9 +1,9 @@
--- Complete runs, and runs that end with the usage line.
-use Rattle.std.proofs.Common.{◌≡◌, ◌∙◌, ℕ, List, [], ◌∷◌, Bool, true, false, is_some, Option, Some, None, IfSome, refl, ap, sym, subst, inl, inr}
+-- Complete runs, runs that end with the usage line, and runs that are stopped before anything is put.
+use Rattle.std.proofs.Common.{◌≡◌, ◌∙◌, ℕ, zero, List, [], ◌∷◌, Bool, true, false, is_some, Option, Some, None, IfSome, refl, ap, sym, subst, inl, inr, append-nil, arith}
 use Rattle.ld_io.specs.Shelf.{Files}
 use Rattle.ld_cmd.specs.declared.status.Status.{Status}
 use Rattle.ld_cmd.specs.declared.status.Status.TheVariants.{Done, Faulted, Usage, Input, ReadFault, WriteFault, Memory, Limit}
-use Rattle.ld_cmd.specs.Ending.{EndsAs, IsComplete, Takes}
+use Rattle.ld_cmd.specs.Ending.{EndsAs, IsComplete, IsWhole, StandsInFront, Takes, UsageIsExact}
 use Rattle.ld_words.specs.Words.{Intent, intent_of, usage_line}
 use Rattle.ld_cmd.specs.Output.{commanded, output, usage}
 use Rattle.ld_cmd.specs.Written.{Output, one_piece}
@@ -62,3 +62,47 @@ unput-told old new text status wanted (Some files) is stays = λ empty. stays (f
   where
     first-of : text ∷ [] ≡ [] ∷ [] → text ≡ []
     first-of same = cc
+
+-- ---- Words in the grammar.
+
+pub in-grammar : (found : Option Intent) (is_command : Bool) → is_command ≡ is_some found → is_command ≡ true → found ≡ None → ⊥
+in-grammar None true is holds none = absurd (cc)
+in-grammar (Some intent) true is holds none = absurd (cc)
+in-grammar found false is holds none = absurd (cc)
+
+pub usage-elsewhere : (found : Option Intent) (status : Status) → (found ≡ None → ⊥) → ¬ (status ≡ Usage) → UsageIsExact found status
+usage-elsewhere None status some other = absurd (some refl)
+usage-elsewhere (Some intent) status some other = other
+
+-- another output that is the same
+pub same_ends : (status : Status) (made wanted : Files → Output) (files : Option Files) → IfSome files (λ f. made f ≡ wanted f) → EndsTold status made files → EndsTold status wanted files
+same_ends status made wanted None is ends = tt
+same_ends status made wanted (Some files) is ends = subst (λ out. EndsAs status out.status) is ends
+
+pub same_takes : (status : Status) (made wanted : Files → Output) (files : Option Files) (before after : Option (List ℕ)) → IfSome files (λ f. made f ≡ wanted f) → TakesTold status made files before after → TakesTold status wanted files before after
+same_takes status made wanted None before after is takes = tt
+same_takes status made wanted (Some files) before after is takes = subst (λ out. IfSome before (λ b. Takes status out.pieces b after)) is takes
+
+-- ---- Nothing is put.
+
+pub stopped-ends : (status : Status) (wanted : Files → Output) (files : Option Files) → ¬ (IsWhole status) → EndsTold status wanted files
+stopped-ends status wanted None stopped = tt
+stopped-ends status wanted (Some files) stopped = λ whole. absurd (stopped whole)
+
+-- where reading or memory stopped the run
+pub none-taken : (wanted : Files → Output) (files : Option Files) (before : Option (List ℕ)) → TakesTold Memory wanted files before before
+none-taken wanted None before = tt
+none-taken wanted (Some files) None = tt
+none-taken wanted (Some files) (Some before) = (zero, omega arith, ap Some (sym (append-nil before)))
+
+pub none-lost : (before : Option (List ℕ)) → IfSome before (λ b. before ≡ Some b)
+none-lost None = tt
+none-lost (Some before) = refl
+
+pub none-in_front : (before : Option (List ℕ)) → IfSome before (λ b. StandsInFront b before)
+none-in_front None = tt
+none-in_front (Some before) = ([], ap Some (sym (append-nil before)))
+
+pub none-put : {A : Type 0} (out : A) (wanted : Files → Output) (files : Option Files) → IfSome files (λ f. (wanted f).pieces ≡ [] ∷ [] → out ≡ out)
+none-put out wanted None = tt
+none-put out wanted (Some files) = λ empty. refl

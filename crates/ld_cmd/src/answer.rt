@@ -25,7 +25,7 @@ use ld_words::Listing;
 use std::alloc::{AllocError, Global};
 
 // What a command shows of an answer.
-#[derive(Clone, Copy, Debug, PartialEq, Eq)]
+#[derive(Clone, Copy)]
 pub(crate) enum Shown {
     Faces,
     Steps,
@@ -34,7 +34,7 @@ pub(crate) enum Shown {
 }
 
 // What a command makes of an answer.
-#[derive(Clone, Copy, Debug, PartialEq, Eq)]
+#[derive(Clone, Copy)]
 pub(crate) enum Form {
     Listed(Shown),
     // One text without references.

@@ -1,8 +1,10 @@
 // What is found in a model's text.
-ghost use Rattle.std.specs.Prelude.{◌≡◌, ◌≢◌, ◌≤◌, ◌+◌, ◌<◌, ◌^◌, ◌==◌, Err, IfOk, IfSome, None, if◌then◌else◌, length};
+ghost use Rattle.std.specs.Prelude.{◌≡◌, ◌≢◌, ◌≤◌, ◌+◌, ◌<◌, ◌^◌, ◌==◌, ℕ, List, Err, IfOk, IfSome, None, if◌then◌else◌, length};
 ghost use Rattle.ld_io.specs.Faults.{HasRisen};
 ghost use Rattle.ld_check.specs.Findings.{findings_of};
+ghost use Rattle.ld_mpd.specs.Blocks.{IsText, text_of};
 ghost use Rattle.ld_engine.specs.Limits.{bad_limit};
+ghost use Rattle.ld_engine.specs.Loading.{BeginsWith};
 ghost use Rattle.ld_words.specs.Shown.{options_shown};
 ghost use Rattle.ld_cmd.specs.Ending.{IsWhole};
 ghost use Rattle.ld_cmd.specs.Made.{Makes, output_of};
@@ -14,6 +16,7 @@ use crate::make::own_name;
 use crate::model::{load_model, open_workspace};
 use crate::status::Status;
 use ld_check::{Finding, check};
+use ld_engine::Workspace;
 use ld_io::Shelf;
 use ld_mpd::text_of;
 use ld_names::{Bytes, FileId, Name};
@@ -54,14 +57,27 @@ fn check_model(alloc: Global, options: &Options, own: &Name, bytes: &[u8]) -> Re
     ensures no_fault { result ≢ Err Stop.ReadFault }
 {
     let mut workspace = open_workspace(alloc, options)?;
-    let main = match load_model(alloc, &mut workspace, own, bytes) {
-        Ok(main) => main,
-        Err(stop) => return Err(stop),
-    };
+    match load_model(alloc, &mut workspace, own, bytes) {
+        Ok(main) => Ok(check_loaded(alloc, &workspace, &main, bytes)?),
+        Err(stop) => Err(stop),
+    }
+}
+
+// What is found in the text of a model that is loaded.
+fn check_loaded(
+    alloc: Global,
+    workspace: &Workspace,
+    main: &FileId,
+    bytes: &[u8],
+) -> Result<Made, AllocError>
+    requires weight { workspace.now.limits.total_weight ≡ 268435456 }
+    requires first { (lines : List (List ℕ)) → IsText lines bytes.now → BeginsWith main.now lines workspace.now.texts.known }
+    ensures { (own : List ℕ) → IfOk result (λ made. output_of made ≡ found_output (findings_of main.now (text_of own bytes.now))) }
+{
     // Its clauses say how much the lines may weigh, and so how many there may be.
     let _weight = workspace.texts().weight();
     let lines = text_of(alloc, bytes)?;
-    Ok(found(alloc, &main, lines.as_slice())?)
+    found(alloc, main, lines.as_slice())
 }
 
 fn found(alloc: Global, file: &FileId, lines: &[Bytes]) -> Result<Made, AllocError>

@@ -8,7 +8,7 @@ use std::alloc::{AllocError, Global};
 use std::env::VarError;
 
 // Why the command line can't be used.
-#[derive(Clone, Copy, Debug, PartialEq, Eq)]
+#[derive(Clone, Copy)]
 pub(crate) enum Unusable {
     // A word, or the library's folder, is not UTF-8.
     NotText,

@@ -6,7 +6,7 @@ use crate::status::Status;
 use std::alloc::{AllocError, AllocFailed};
 
 // What is to be written, and the status that goes with it.
-#[derive(Debug, Drop)]
+#[derive(Drop)]
 pub(crate) struct Made {
     pub text: Vec<u8>,
     pub status: Status,
@@ -15,7 +15,7 @@ pub(crate) struct Made {
 }
 
 // Why a run does not go on to its answer.
-#[derive(Debug, Drop)]
+#[derive(Drop)]
 pub(crate) enum Stop {
     // What is to be written is decided already.
     Decided(Made),

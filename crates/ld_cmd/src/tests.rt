@@ -34,7 +34,6 @@ use itoa::Buffer;
 use ld_io::{MemShelf, MemSink, Place};
 use ld_line::read_number;
 use std::alloc::{AllocError, Global};
-use std::test::Fail;
 
 // A table is a text of cases. Each stands behind `@`: its name, the words (behind `!` the numbers of the fetch and of the
 // put that are to fail, and how many bytes that put takes), each file behind `^` with its place and name, and behind `~`
@@ -62,11 +61,16 @@ fn pieces<'a>(alloc: Global, text: &'a str, at: char) -> Result<Vec<&'a str>, Al
 // The words of a line, which stand between TABs or else between spaces.
 fn words_of(alloc: Global, line: &str) -> Result<Vec<String>, AllocError> {
     let between = if line.contains('\t') { '\t' } else { ' ' };
-    let mut words = Vec::new(alloc);
-    for word in pieces(alloc, line, between)?.as_slice() {
-        words.push(String::from_str(alloc, word)?)?;
+    let words = pieces(alloc, line, between)?;
+    owned(alloc, words.as_slice())
+}
+
+fn owned(alloc: Global, words: &[&str]) -> Result<Vec<String>, AllocError> {
+    let mut own = Vec::new(alloc);
+    for word in words {
+        own.push(String::from_str(alloc, word)?)?;
     }
-    Ok(words)
+    Ok(own)
 }
 
 fn place_of(text: &str) -> Place {
@@ -130,6 +134,34 @@ fn run_given(
     run_line(alloc, words, shelf, sink)
 }
 
+fn number_text(alloc: Global, status: Status) -> Result<String, AllocError> {
+    format!(in alloc; "{}", status.number())
+}
+
+fn counts_text(
+    alloc: Global,
+    status: Status,
+    fetches: u64,
+    puts: u64,
+) -> Result<String, AllocError> {
+    format!(in alloc; "{} {fetches} {puts}", status.number())
+}
+
+fn is_ending(
+    alloc: Global,
+    ending: &str,
+    status: Status,
+    fetches: u64,
+    puts: u64,
+) -> Result<bool, AllocError> {
+    let text = if ending.contains(' ') {
+        counts_text(alloc, status, fetches, puts)?
+    } else {
+        number_text(alloc, status)?
+    };
+    Ok(ending == text.as_str())
+}
+
 // Whether a case comes to what it wants.
 fn is_given(alloc: Global, case: &str) -> Result<bool, AllocError> {
     let (given, wanted) = cut(case, '~');
@@ -137,16 +169,13 @@ fn is_given(alloc: Global, case: &str) -> Result<bool, AllocError> {
     let mut shelf = MemShelf::new(alloc);
     let mut sink = MemSink::new(alloc);
     let status = run_given(alloc, given, &mut shelf, &mut sink)?;
-    let number = format!(in alloc; "{}", status.number())?;
-    let counts = format!(in alloc; "{number} {} {}", shelf.fetches(), sink.puts())?;
-    let is_ending = ending == number.as_str() || ending == counts.as_str();
+    let is_ending = is_ending(alloc, ending, status, shelf.fetches(), sink.puts())?;
     Ok(is_ending && sink.bytes() == bytes.as_bytes())
 }
 
-// The first case of a table that does not come to what it wants.
-fn wrong_case(alloc: Global, table: &str) -> Result<&str, AllocError> {
-    let (_, cases) = cut(table, '@');
-    for case in pieces(alloc, cases, '@')?.as_slice() {
+// The first case that does not come to what it wants.
+fn first_wrong<'a>(alloc: Global, cases: &[&'a str]) -> Result<&'a str, AllocError> {
+    for case in cases {
         if !is_given(alloc, case)? {
             return Ok(case);
         }
@@ -154,12 +183,32 @@ fn wrong_case(alloc: Global, table: &str) -> Result<&str, AllocError> {
     Ok("")
 }
 
+fn wrong_case(alloc: Global, table: &str) -> Result<&str, AllocError> {
+    let (_, cases) = cut(table, '@');
+    let cases = pieces(alloc, cases, '@')?;
+    first_wrong(alloc, cases.as_slice())
+}
+
 #[test]
-fn answers_over_files_in_memory(rt: HostRuntime) -> Result<(), Fail> {
+fn answers_over_files_in_memory(rt: HostRuntime) -> Result<(), AllocError> {
     for table in [WORDS, FACES, ORDINARY, COMMANDS, INLINED, OUTSIDE] {
-        assert_eq!(rt; wrong_case(rt.alloc(), table)?, "");
+        let wrong = wrong_case(rt.alloc(), table)?;
+        assert!(rt; wrong.is_empty(), "{wrong}");
     }
     Ok(())
+}
+
+// Whether the words over these files end with this status and this line.
+fn comes_to(
+    alloc: Global,
+    words: &str,
+    shelf: &mut MemShelf,
+    status: Status,
+    line: &str,
+) -> Result<bool, AllocError> {
+    let mut sink = MemSink::new(alloc);
+    let got = run_line(alloc, words, shelf, &mut sink)?;
+    Ok(got == status && sink.bytes() == line.as_bytes())
 }
 
 // Whether so many of a byte, as the model's file, have this status and this line.
@@ -173,14 +222,12 @@ fn ends_as(
     let file = vec![in alloc; byte; count]?;
     let mut shelf = MemShelf::new(alloc);
     shelf.add(Place::Work, b"m.ldr", file.as_slice())?;
-    let mut sink = MemSink::new(alloc);
-    let got = run_line(alloc, "faces m.ldr", &mut shelf, &mut sink)?;
-    Ok(got == status && sink.bytes() == line.as_bytes())
+    comes_to(alloc, "faces m.ldr", &mut shelf, status, line)
 }
 
 // Each empty line weighs 32: 8,388,608 of them weigh all that texts may.
 #[test]
-fn the_greatest_file(rt: HostRuntime) -> Result<(), Fail> {
+fn the_greatest_file(rt: HostRuntime) -> Result<(), AllocError> {
     let alloc = rt.alloc();
     assert!(rt; ends_as(alloc, b' ', 33_554_432, Status::Done, "")?);
     assert!(rt; ends_as(alloc, b' ', 33_554_433, Status::Limit, "toobig m.ldr\n")?);
@@ -193,12 +240,21 @@ fn the_greatest_file(rt: HostRuntime) -> Result<(), Fail> {
 fn blocks_of(alloc: Global, count: u32) -> Result<Vec<u8>, AllocError> {
     let mut text = Vec::from_slice(alloc, b"0 FILE m.ldr\n1 16 0 0 0 1 0 0 0 1 0 0 0 1 x.dat\n")?;
     for index in 1..count {
-        text.extend_from_slice(b"0 FILE ")?;
-        text.extend_from_slice(Buffer::new().format(index).as_bytes())?;
-        text.push(b'\n')?;
+        append_block(index, &mut text)?;
     }
     Ok(text)
 }
+
+fn append_block(index: u32, text: &mut Vec<u8>) -> Result<(), AllocError> {
+    text.extend_from_slice(b"0 FILE ")?;
+    text.extend_from_slice(Buffer::new().format(index).as_bytes())?;
+    text.extend_from_slice(b"\n")
+}
+
+const SCRIPTS: &str = "work query
+faces^work drop
+drop\tparts\tx.dat^work insert
+ins\tmodel\tm.ldr\t1\t0 a comment";
 
 // Whether a command over a model, with the library's file `x.dat`, ends with this status and this line.
 fn is_ended(
@@ -210,14 +266,10 @@ fn is_ended(
     line: &str,
 ) -> Result<bool, AllocError> {
     let mut shelf = MemShelf::new(alloc);
+    add_files(alloc, &mut shelf, SCRIPTS)?;
     shelf.add(Place::Work, b"m.ldr", model)?;
-    shelf.add(Place::Work, b"query", b"faces")?;
-    shelf.add(Place::Work, b"drop", b"drop\tparts\tx.dat")?;
-    shelf.add(Place::Work, b"insert", b"ins\tmodel\tm.ldr\t1\t0 a comment")?;
     shelf.add(Place::Parts, b"x.dat", part)?;
-    let mut sink = MemSink::new(alloc);
-    let got = run_line(alloc, words, &mut shelf, &mut sink)?;
-    Ok(got == status && sink.bytes() == line.as_bytes())
+    comes_to(alloc, words, &mut shelf, status, line)
 }
 
 // Whether a command, a query of a script and an edit of one all stop at a limit.
@@ -235,60 +287,60 @@ fn all_stop(alloc: Global, model: &[u8], part: &[u8], line: &str) -> Result<bool
     Ok(command && query && edit)
 }
 
+// Whether they do over a model of so many blocks, with so many of a byte as the library's file.
+fn stops_at(
+    alloc: Global,
+    blocks: u32,
+    byte: u8,
+    count: usize,
+    line: &str,
+) -> Result<bool, AllocError> {
+    let model = blocks_of(alloc, blocks)?;
+    let part = vec![in alloc; byte; count]?;
+    all_stop(alloc, model.as_slice(), part.as_slice(), line)
+}
+
 // A limit at which learning stops is told, and not as want of memory.
 #[test]
-fn limits_of_learning(rt: HostRuntime) -> Result<(), Fail> {
+fn limits_of_learning(rt: HostRuntime) -> Result<(), AllocError> {
     let alloc = rt.alloc();
-    let model = blocks_of(alloc, 1)?;
-    let big = vec![in alloc; b' '; 33_554_433]?;
-    assert!(rt;
-        all_stop(
-            alloc,
-            model.as_slice(),
-            big.as_slice(),
-            "toobig parts/x.dat\n"
-        )?
-    );
-    let heavy = vec![in alloc; b'\n'; 8_388_607]?;
-    assert!(rt;
-        all_stop(
-            alloc,
-            model.as_slice(),
-            heavy.as_slice(),
-            "full weight 66\n"
-        )?
-    );
-    let many = blocks_of(alloc, 65_535)?;
-    assert!(rt; all_stop(alloc, many.as_slice(), b"", "full files 65535\n")?);
+    assert!(rt; stops_at(alloc, 1, b' ', 33_554_433, "toobig parts/x.dat\n")?);
+    assert!(rt; stops_at(alloc, 1, b'\n', 8_388_607, "full weight 66\n")?);
+    assert!(rt; stops_at(alloc, 65_535, b' ', 0, "full files 65535\n")?);
     Ok(())
+}
+
+fn loading_stops(alloc: Global) -> Result<bool, AllocError> {
+    let more = blocks_of(alloc, 65_536)?;
+    let line = "full files 65535\n";
+    is_ended(
+        alloc,
+        "check m.ldr",
+        more.as_slice(),
+        b"",
+        Status::Limit,
+        line,
+    )
+}
+
+fn edit_is_refused(alloc: Global) -> Result<bool, AllocError> {
+    let full = vec![in alloc; b'\n'; 8_388_608]?;
+    let line = "refused full\n";
+    is_ended(
+        alloc,
+        "replay m.ldr insert",
+        full.as_slice(),
+        b"",
+        Status::Done,
+        line,
+    )
 }
 
 // So are one of loading, and one of an edit.
 #[test]
-fn limits_of_texts(rt: HostRuntime) -> Result<(), Fail> {
-    let alloc = rt.alloc();
-    let more = blocks_of(alloc, 65_536)?;
-    assert!(rt;
-        is_ended(
-            alloc,
-            "check m.ldr",
-            more.as_slice(),
-            b"",
-            Status::Limit,
-            "full files 65535\n"
-        )?
-    );
-    let full = vec![in alloc; b'\n'; 8_388_608]?;
-    assert!(rt;
-        is_ended(
-            alloc,
-            "replay m.ldr insert",
-            full.as_slice(),
-            b"",
-            Status::Done,
-            "refused full\n"
-        )?
-    );
+fn limits_of_texts(rt: HostRuntime) -> Result<(), AllocError> {
+    assert!(rt; loading_stops(rt.alloc())?);
+    assert!(rt; edit_is_refused(rt.alloc())?);
     Ok(())
 }
 

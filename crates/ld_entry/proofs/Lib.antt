@@ -9,3 +9,4 @@ pub mod Ends
 pub mod Standing
 pub mod Zeros
 pub mod Lawfulness
+pub mod Moving

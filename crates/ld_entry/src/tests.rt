@@ -9,7 +9,6 @@ use ld_names::TextId;
 use ld_num::{Placement, Point};
 use std::alloc::Global;
 use std::mem::size_of;
-use std::test::Fail;
 
 const NEUTRAL: Below = Below {
     enable: true,
@@ -61,33 +60,34 @@ fn content_of(line: Line) -> Content {
 }
 
 // The reference that a line of type 1 is.
-fn outer_of(alloc: Global, line: &str, below: Below) -> Result<Outer, Fail> {
-    let Content::Reference(colour, placement) = content_of(read_line(alloc, line.as_bytes())?)
-    else {
-        return Err("no reference".into());
-    };
-    Ok(Outer {
-        placement,
-        colour: colour_of(colour),
-        below,
-        source: ABOVE,
-    })
+fn outer_of(alloc: Global, line: &str, below: Below) -> Option<Outer> {
+    let line = read_line(alloc, line.as_bytes()).ok()?;
+    match content_of(line) {
+        Content::Reference(colour, placement) => Some(Outer {
+            placement,
+            colour: colour_of(colour),
+            below,
+            source: ABOVE,
+        }),
+        Content::Drawn(..) | Content::Other => None,
+    }
 }
 
 // The entry that a line of type 2 to 5 draws.
-fn entry_of(alloc: Global, line: &str, colour: Colour) -> Result<Entry, Fail> {
-    let Content::Drawn(kind, points) = content_of(read_line(alloc, line.as_bytes())?) else {
-        return Err("nothing drawn".into());
-    };
-    Ok(Entry::Drawn {
-        kind,
-        certified: true,
-        clip: true,
-        winding: Winding::Ccw,
-        colour,
-        source: HERE,
-        points,
-    })
+fn entry_of(alloc: Global, line: &str, colour: Colour) -> Option<Entry> {
+    let line = read_line(alloc, line.as_bytes()).ok()?;
+    match content_of(line) {
+        Content::Drawn(kind, points) => Some(Entry::Drawn {
+            kind,
+            certified: true,
+            clip: true,
+            winding: Winding::Ccw,
+            colour,
+            source: HERE,
+            points,
+        }),
+        Content::Reference(..) | Content::Other => None,
+    }
 }
 
 // A reference, a line in the file that it refers to, and the line where the reference puts it.
@@ -99,95 +99,127 @@ const CARRIED: &str =
 1 16 0 1 0 -1 0 0 0 1 0 0 0 1 s.ldr : 4 16 0 0 0 1 0 0 1 1 0 0 1 0 => 4 16 0 1 0 -1 1 0 -1 2 0 0 2 0
 1 16 0 0 0 0 1 0 1 0 0 0 0 1 s.ldr : 5 16 1 2 3 4 5 6 7 8 9 10 11 12 => 5 16 2 1 3 5 4 6 8 7 9 11 10 12";
 
-// Whether the reference carries the inner line's entry to that of the other line, where both are drawn
-// in colour 24.
-fn is_carried(alloc: Global, outer: &str, inner: &str, carried: &str) -> Result<bool, Fail> {
-    let outer = outer_of(alloc, outer, NEUTRAL)?;
-    let inner = entry_of(alloc, inner, Colour::Edge)?;
-    let colour = if outer.colour == Colour::Main {
+// The colour that a line in colour 24 has below a reference in colour 16 or 4.
+fn edge_below(colour: Colour) -> Colour {
+    if colour == Colour::Main {
         Colour::Edge
     } else {
         Colour::EdgeOf(4)
+    }
+}
+
+// Whether the reference carries the inner line's entry to that of the other line, where both are drawn
+// in colour 24.
+fn is_carried(alloc: Global, outer: &str, inner: &str, carried: &str) -> bool {
+    let Some(outer) = outer_of(alloc, outer, NEUTRAL) else {
+        return false;
     };
-    let carried = entry_of(alloc, carried, colour)?;
-    Ok(carry(&outer, &inner) == Ok(carried))
+    let Some(inner) = entry_of(alloc, inner, Colour::Edge) else {
+        return false;
+    };
+    match entry_of(alloc, carried, edge_below(outer.colour)) {
+        Some(carried) => carry(&outer, &inner) == Ok(carried),
+        None => false,
+    }
 }
 
-fn is_row_carried(alloc: Global, row: &str) -> Result<bool, Fail> {
-    let (row, carried) = row.split_once(" => ").ok_or("a row without =>")?;
-    let (outer, inner) = row.split_once(" : ").ok_or("a row without :")?;
-    is_carried(alloc, outer, inner, carried)
+fn is_row_carried(alloc: Global, row: &str) -> bool {
+    let Some((row, carried)) = row.split_once(" => ") else {
+        return false;
+    };
+    match row.split_once(" : ") {
+        Some((outer, inner)) => is_carried(alloc, outer, inner, carried),
+        None => false,
+    }
 }
 
-fn is_out_of_range(alloc: Global, outer: &Outer, inner: &str) -> Result<bool, Fail> {
-    let _: [Point; 0] = NO_POINTS;
-    let inner = entry_of(alloc, inner, Colour::Main)?;
+fn is_out_of_range(outer: &Outer, inner: &Entry) -> bool {
     let range = Fault {
         what: What::Range,
         source: ABOVE,
     };
-    Ok(carry(outer, &inner) == Err(range))
+    carry(outer, inner) == Err(range)
 }
 
 fn is_kept(outer: &Outer, entry: &Entry) -> bool {
     carry(outer, entry) == Ok(*entry)
 }
 
-#[test]
-fn points_and_colours_below_a_reference(rt: HostRuntime) -> Result<(), Fail> {
-    let alloc = rt.alloc();
-    for row in CARRIED.lines() {
-        assert!(rt; is_row_carried(alloc, row)?, "{row}");
-    }
-    let outer = outer_of(alloc, "1 16 1000000 0 0 1 0 0 0 1 0 0 0 1 s.ldr", NEUTRAL)?;
-    assert!(rt; is_out_of_range(alloc, &outer, "3 16 0 0 0 1 0 0 0 1 0")?);
+// A reference that moves points out of range, and keeps an entry that has none.
+fn is_far(alloc: Global) -> bool {
+    let Some(outer) = outer_of(alloc, "1 16 1000000 0 0 1 0 0 0 1 0 0 0 1 s.ldr", NEUTRAL) else {
+        return false;
+    };
     let part = Entry::Part {
         file: TextId(2),
         colour: Colour::Main,
         source: HERE,
     };
-    assert!(rt; is_kept(&outer, &part));
-    assert!(rt; size_of::<Entry>() <= 120);
-    Ok(())
+    match entry_of(alloc, "3 16 0 0 0 1 0 0 0 1 0", Colour::Main) {
+        Some(inner) => is_out_of_range(&outer, &inner) && is_kept(&outer, &part),
+        None => false,
+    }
 }
 
 #[test]
-fn culling_below_a_reference(rt: HostRuntime) -> Result<(), Fail> {
+fn points_and_colours_below_a_reference(rt: HostRuntime) {
     let alloc = rt.alloc();
-    let inner = entry_of(alloc, "2 24 0 0 0 1 0 0", Colour::Code(1))?;
-    for below in [
-        Below {
-            enable: false,
-            ..NEUTRAL
-        },
-        Below {
-            clip: false,
-            ..NEUTRAL
-        },
-        Below {
-            invert: true,
-            ..NEUTRAL
-        },
-    ] {
-        let outer = outer_of(alloc, "1 4 0 0 0 1 0 0 0 1 0 0 0 1 s.ldr", below)?;
-        let once = carry(&outer, &inner);
-        let Ok(
-            Entry::Drawn {
-                certified,
-                clip,
-                winding,
-                colour,
-                ..
-            },
-        ) = once
-        else {
-            return Err("out of range".into());
-        };
-        assert_eq!(rt; (certified, clip), (below.enable, below.clip));
-        assert_eq!(rt; winding == Winding::Cw, below.invert);
-        assert_eq!(rt; colour, Colour::Code(1));
+    for row in CARRIED.lines() {
+        assert!(rt; is_row_carried(alloc, row), "{row}");
     }
-    Ok(())
+    assert!(rt; is_far(alloc));
+    assert!(rt; size_of::<Entry>() <= 120);
+}
+
+fn has_culling(entry: Entry, below: Below) -> bool {
+    match entry {
+        Entry::Drawn {
+            certified,
+            clip,
+            winding,
+            colour,
+            ..
+        } => {
+            let is_turned = winding == Winding::Cw;
+            let is_passed = certified == below.enable && clip == below.clip;
+            is_passed && is_turned == below.invert && colour == Colour::Code(1)
+        }
+        Entry::Part { .. } => false,
+    }
+}
+
+// Whether a line below a reference has the culling that is passed to it, and its own colour.
+fn is_culled(alloc: Global, below: Below) -> bool {
+    let Some(outer) = outer_of(alloc, "1 4 0 0 0 1 0 0 0 1 0 0 0 1 s.ldr", below) else {
+        return false;
+    };
+    let Some(inner) = entry_of(alloc, "2 24 0 0 0 1 0 0", Colour::Code(1)) else {
+        return false;
+    };
+    match carry(&outer, &inner) {
+        Ok(entry) => has_culling(entry, below),
+        Err(_) => false,
+    }
+}
+
+#[test]
+fn culling_below_a_reference(rt: HostRuntime) {
+    let alloc = rt.alloc();
+    let uncertified = Below {
+        enable: false,
+        ..NEUTRAL
+    };
+    assert!(rt; is_culled(alloc, uncertified));
+    let unclipped = Below {
+        clip: false,
+        ..NEUTRAL
+    };
+    assert!(rt; is_culled(alloc, unclipped));
+    let inverted = Below {
+        invert: true,
+        ..NEUTRAL
+    };
+    assert!(rt; is_culled(alloc, inverted));
 }
 
 fn crosses_threads<T: Send + Sync>() {}

@@ -1,4 +1,5 @@
 pub mod Answered
+pub mod FourPoints
 pub mod Meaning
 pub mod Outcomes
 pub mod Said

@@ -12,12 +12,11 @@ use crate::inlining::NO_POINTS;
 use crate::{InlineError, inline};
 use ld_colour::{Colour, Table};
 use ld_entry::{Entry, Source};
-use ld_line::{Kind, Line, Winding, read_line};
+use ld_line::{Kind, Line, Winding, read_line, read_number};
 use ld_names::{List, TextId};
 use ld_num::Point;
 use ld_steps::StepPart;
 use std::alloc::{AllocError, Global};
-use std::test::Fail;
 
 const COLOURS: &[u8] = b"0 !COLOUR Red CODE 4 VALUE #C91A09 EDGE #333333\n\
 0 !COLOUR Blue CODE 1 VALUE 0x0055bf EDGE 0\n\
@@ -31,19 +30,23 @@ e4 nocert clip ccw 2 24 0 0 0 1.5 0 0; e1 nocert clip ccw 2 24 0 0 0 1 0 0; 1 ce
 d16744448 cert clip cw 4 16 0 0 0 1 0 0 1 1 0 0 -1 0; E cert clip cw 5 24 0 0 0 1 0 0 2 0 0 3 0 0; 4 cert clip ccw 1 16 0 0 0 1 0 0 0 1 0 0 0 1 a.dat => 4 0x2FF8000 0 -1 0 1 1 0 1 0 0 0 0 0|5 24 0 0 0 1 0 0 2 0 0 3 0 0|0 STEP
 m nocert clip cw 3 16 0 0 0 1 0 0 0 1 0; m nocert noclip ccw 2 16 0 0 0 1 0 0 => 0 BFC NOCLIP|3 16 0 1 0 1 0 0 0 0 0|2 16 0 0 0 1 0 0|0 STEP";
 
-fn colour_of(word: &str) -> Result<Colour, Fail> {
+fn number(text: &str) -> u32 {
+    read_number(text.as_bytes()).unwrap_or(0)
+}
+
+fn colour_of(word: &str) -> Colour {
     if word == "m" {
-        return Ok(Colour::Main);
+        return Colour::Main;
     }
     if word == "E" {
-        return Ok(Colour::Edge);
+        return Colour::Edge;
     }
     if let Some(code) = word.strip_prefix("e") {
-        return Ok(Colour::EdgeOf(code.parse::<u32>()?));
+        return Colour::EdgeOf(number(code));
     }
     match word.strip_prefix("d") {
-        Some(value) => Ok(Colour::Direct(value.parse::<u32>()?)),
-        None => Ok(Colour::Code(word.parse::<u32>()?)),
+        Some(value) => Colour::Direct(number(value)),
+        None => Colour::Code(number(word)),
     }
 }
 
@@ -72,56 +75,94 @@ fn read_shown(line: Line) -> Shown {
     }
 }
 
-fn entry_of(alloc: Global, row: &str) -> Result<Entry, Fail> {
-    let (word, row) = row.split_once(" ").ok_or("no colour")?;
-    let (certified, row) = row.split_once(" ").ok_or("no certification")?;
-    let (clip, row) = row.split_once(" ").ok_or("no clipping")?;
-    let (winding, line) = row.split_once(" ").ok_or("no winding")?;
-    let colour = colour_of(word)?;
+fn shown_entry(
+    shown: Shown,
+    certified: bool,
+    clip: bool,
+    winding: Winding,
+    colour: Colour,
+) -> Entry {
+    let _: [Point; 0] = NO_POINTS;
     let source = Source {
         text: TextId(0),
         line: 1,
     };
-    let winding = if winding == "cw" {
-        Winding::Cw
-    } else {
-        Winding::Ccw
-    };
-    let Shown::Drawn(kind, points) = read_shown(read_line(alloc, line.as_bytes())?) else {
-        return Ok(Entry::Part {
+    match shown {
+        Shown::Drawn(kind, points) => Entry::Drawn {
+            kind,
+            certified,
+            clip,
+            winding,
+            colour,
+            source,
+            points,
+        },
+        Shown::Other => Entry::Part {
             file: TextId(1),
             colour,
             source,
-        });
-    };
-    Ok(Entry::Drawn {
-        kind,
-        certified: certified == "cert",
-        clip: clip == "clip",
-        winding,
-        colour,
-        source,
-        points,
-    })
+        },
+    }
 }
 
-fn entries_of(alloc: Global, row: &str) -> Result<Vec<Entry>, Fail> {
+fn winding_of(word: &str) -> Winding {
+    if word == "cw" {
+        Winding::Cw
+    } else {
+        Winding::Ccw
+    }
+}
+
+// The first word of a row, and what stands behind it.
+fn cut(row: &str) -> (&str, &str) {
+    match row.split_once(' ') {
+        Some(parts) => parts,
+        None => (row, ""),
+    }
+}
+
+fn entry_of(alloc: Global, row: &str) -> Result<Entry, AllocError> {
+    let (colour, row) = cut(row);
+    let (certified, row) = cut(row);
+    let (clip, row) = cut(row);
+    let (winding, line) = cut(row);
+    let shown = read_shown(read_line(alloc, line.as_bytes())?);
+    Ok(shown_entry(
+        shown,
+        certified == "cert",
+        clip == "clip",
+        winding_of(winding),
+        colour_of(colour),
+    ))
+}
+
+fn push_entry(alloc: Global, row: &str, entries: &mut Vec<Entry>) -> Result<(), AllocError> {
     let _: [Point; 0] = NO_POINTS;
+    if row.is_empty() {
+        return Ok(());
+    }
+    entries.push(entry_of(alloc, row)?)?;
+    Ok(())
+}
+
+fn entries_of(alloc: Global, rows: &str) -> Result<Vec<Entry>, AllocError> {
     let mut entries = Vec::new(alloc);
-    for entry in row.split("; ") {
-        if !entry.is_empty() {
-            entries.push(entry_of(alloc, entry)?)?;
-        }
+    for row in rows.split("; ") {
+        push_entry(alloc, row, &mut entries)?;
     }
     Ok(entries)
 }
 
+fn append_line(line: &str, text: &mut Vec<u8>) -> Result<(), AllocError> {
+    text.extend_from_slice(line.as_bytes())?;
+    text.extend_from_slice(b"\r\n")
+}
+
 fn text_of(alloc: Global, lines: &str) -> Result<Vec<u8>, AllocError> {
     let mut text = Vec::new(alloc);
-    text.extend_from_slice(b"0 BFC CERTIFY CCW\r\n")?;
+    append_line("0 BFC CERTIFY CCW", &mut text)?;
     for line in lines.split("|") {
-        text.extend_from_slice(line.as_bytes())?;
-        text.extend_from_slice(b"\r\n")?;
+        append_line(line, &mut text)?;
     }
     Ok(text)
 }
@@ -139,39 +180,53 @@ fn one_step(alloc: Global, count: u32) -> Result<Vec<StepPart>, AllocError>
     Ok(steps)
 }
 
-fn text_in_one_step(alloc: Global, entries: &[Entry], table: &Table) -> Result<Vec<u8>, Fail> {
+// What entries of one step give, if there are few.
+fn inlined_in_one_step(
+    alloc: Global,
+    entries: &[Entry],
+    table: &Table,
+) -> Result<Vec<u8>, InlineError> {
     if entries.len() >= 100 {
-        return Err("too many entries".into());
+        return Err(InlineError::Memory);
     }
-    let steps = one_step(alloc, entries.len() as u32)?;
-    match inline(alloc, entries, &steps, table) {
-        Ok(text) => Ok(text),
-        Err(_) => Err("not inlined".into()),
+    match one_step(alloc, entries.len() as u32) {
+        Ok(steps) => inline(alloc, entries, steps.as_slice(), table),
+        Err(AllocError) => Err(InlineError::Memory),
     }
 }
 
-fn lacks_four(alloc: Global, entries: &[Entry], table: &Table) -> Result<bool, Fail> {
-    if entries.len() >= 100 {
-        return Err("too many entries".into());
+fn lacks_four(alloc: Global, entries: &[Entry]) -> bool {
+    let none = Table::empty(alloc);
+    matches!(
+        inlined_in_one_step(alloc, entries, &none),
+        Err(InlineError::NoColour(4))
+    )
+}
+
+fn is_inlined(alloc: Global, entries: &[Entry], want: &[u8]) -> bool {
+    let Ok(table) = Table::read(alloc, COLOURS) else {
+        return false;
+    };
+    match inlined_in_one_step(alloc, entries, &table) {
+        Ok(text) => text.as_slice() == want,
+        Err(_) => false,
     }
-    let steps = one_step(alloc, entries.len() as u32)?;
-    let text = inline(alloc, entries, &steps, table);
-    Ok(matches!(text, Err(InlineError::NoColour(4))))
+}
+
+fn row_holds(alloc: Global, row: &str) -> Result<bool, AllocError> {
+    let Some((entries, lines)) = row.split_once(" => ") else {
+        return Ok(false);
+    };
+    let entries = entries_of(alloc, entries)?;
+    let want = text_of(alloc, lines)?;
+    let is_lacking = lacks_four(alloc, entries.as_slice()) == row.starts_with("e4");
+    Ok(is_lacking && is_inlined(alloc, entries.as_slice(), want.as_slice()))
 }
 
 #[test]
-fn entries_are_inlined(rt: HostRuntime) -> Result<(), Fail> {
-    let alloc = rt.alloc();
-    let table = Table::read(alloc, COLOURS).map_err(|_| "no table")?;
-    let none = Table::empty(alloc);
-    let _: [Point; 0] = NO_POINTS;
+fn entries_are_inlined(rt: HostRuntime) -> Result<(), AllocError> {
     for row in TEXTS.lines() {
-        let (entries, want) = row.split_once(" => ").ok_or("a row without =>")?;
-        let entries = entries_of(alloc, entries)?;
-        let text = text_in_one_step(alloc, &entries, &table)?;
-        assert_eq!(rt; text, text_of(alloc, want)?, "{row}");
-        let wanted = row.starts_with("e4");
-        assert_eq!(rt; lacks_four(alloc, &entries, &none)?, wanted, "{row}");
+        assert!(rt; row_holds(rt.alloc(), row)?, "{row}");
     }
     Ok(())
 }

@@ -39,7 +39,6 @@ fn append_point(point: &Point, into: &mut Vec<u8>) -> Result<(), AllocError>
     append_number(point.z, into)
 }
 
-#[tactic(auto, using(crate::proofs::Texts::points_more))]
 fn append_points(points: &[Point], into: &mut Vec<u8>) -> Result<(), AllocError>
     ensures { OnOk result (into.new.items ≡ into.old.items ++ following (map dec_text (flat_map coordinates points.now))) }
 {

@@ -1,4 +1,4 @@
-use Rattle.std.proofs.Common.{◌≡◌, ◌∙◌, ◌∷◌, arith}
+use Rattle.std.proofs.Common.{◌≡◌, ◌∙◌, ◌∷◌, Err, ap, arith}
 use Rattle.std.proofs.lemmas.List.{nil_from_length}
 use Rattle.ld_cmd.specs.declared.status.Status.TheVariants.{Done}
 use Rattle.ld_cmd.proofs.Leaves.{all-done, front-on}
@@ -9,10 +9,21 @@ returns-clause-leaves g c =
     let empty = nil_from_length c.loop-command.rest.now c.in_default.ensures.cases in
     c.loop-command.invariant.leaves Done (g.K.Sink.taken c.loop-command.out) (rw empty (all-done _ _ _ _))
 
-pub returns-in-Err-clause-leaves : goal.returns-in-Err-clause-leaves
-returns-in-Err-clause-leaves g c =
+pub returns-in-Err : goal.returns-in-Err
+returns-in-Err g c =
+    let before = c.loop-command.invariant in
     let rest : c.loop-command.rest.now ≡ c.in-Some.command.now ∷ c.in-Some.more.now = c.in-Some.ensures.cases.0 in
-    c.loop-command.invariant.leaves c.in-Err.status (g.K.Sink.taken c.answer_command.new.out) (rw rest (c.in-Err.ensures.stops c.in-Some.more.now))
+    record {
+      leaves = before.leaves c.in-Err.status (g.K.Sink.taken c.answer_command.new.out) (rw rest (c.in-Err.ensures.stops c.in-Some.more.now));
+      in_front = front-on (g.K.Sink.taken c.args.out.now) (g.K.Sink.taken c.loop-command.out) (g.K.Sink.taken c.answer_command.new.out) before.in_front c.answer_command.ensures.in_front;
+      no_usage = λ is. c.in-Err.ensures.no_usage (ap Err is);
+      read_cause = λ is. omega (arith, before.read, c.in-Err.ensures.read_cause (ap Err is));
+      write_cause = λ is. omega (arith, before.written, c.in-Err.ensures.write_cause (ap Err is));
+      same = c.answer_command.ensures.same ∙ before.same;
+      told_same = c.answer_command.ensures.told_same ∙ before.told_same;
+      shelf_faults = omega (arith, before.read, c.answer_command.ensures.shelf_faults);
+      sink_faults = omega (arith, before.written, c.answer_command.ensures.sink_faults);
+    }
 
 pub loop-command-preserved : goal.loop-command-preserved
 loop-command-preserved g c =
