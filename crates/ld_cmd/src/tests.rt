@@ -18,6 +18,7 @@ mod inlined;
 mod limits;
 mod ordinary;
 mod outside;
+mod printed;
 mod requests;
 mod scripts;
 mod threads;

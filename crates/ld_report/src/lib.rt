@@ -8,8 +8,6 @@ mod findings;
 mod parts;
 mod pieces;
 mod steps;
-#[cfg(test)]
-mod tests;
 mod undoing;
 
 pub use entry::{print_entries, print_entry};

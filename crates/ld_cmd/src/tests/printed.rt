@@ -1,17 +1,19 @@
 //! Printed entries, faults, parts lists, steps and findings.
-use crate::entry::NO_POINTS;
-use crate::{parts_list, print_entry, print_fault, print_findings, print_parts, print_steps};
 use ld_check::Finding;
 use ld_colour::{Colour, Table};
 use ld_entry::{Entry, Fault, Source, What};
 use ld_line::{Kind, Line, RotWord, Winding, lines_of, read_line};
 use ld_names::{FileId, Folder, Lines, List, TextId, normal};
 use ld_num::Point;
+use ld_report::{parts_list, print_entry, print_fault, print_findings, print_parts, print_steps};
 use ld_steps::{StepPart, Turn};
 use ld_texts::Texts;
 use std::alloc::{AllocError, Global};
 use std::num::ParseIntError;
 use std::test::Fail;
+
+// Names the type of an entry's points, which the prover asks for where entries move.
+const NO_POINTS: [Point; 0] = [];
 
 const COLOURS: &[u8] = b"0 !COLOUR Red CODE 4 VALUE #C91A09 EDGE #333333\n\
 0 !COLOUR Blue CODE 1 VALUE 0x0055bf EDGE 0\n\
