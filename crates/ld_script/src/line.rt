@@ -105,6 +105,18 @@ fn read_text_command(
     let Some(file) = read_file(alloc, folder, name)? else {
         return Ok(None);
     };
+    text_command(alloc, word, file, field, text)
+}
+
+fn text_command(
+    alloc: Global,
+    word: &[u8],
+    file: FileId,
+    field: &[u8],
+    text: &[u8],
+) -> Result<Option<Command>, AllocError>
+    ensures { IfOk result (λ command. command ≡ text_command word.now file field.now text.now) }
+{
     if word == b"set".as_slice() {
         read_set(alloc, file, field, text)
     } else if word == b"ins".as_slice() {

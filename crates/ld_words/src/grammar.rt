@@ -1,5 +1,5 @@
-ghost use Rattle.std.specs.Prelude.{◌≡◌, ◌&&◌, is_some, map, string_bytes};
-ghost use Rattle.ld_words.specs.Words.{are_options, contains, intent_of, is_option, with_rest};
+ghost use Rattle.std.specs.Prelude.{◌≡◌, ◌&&◌, None, Some, is_some, map, string_bytes};
+ghost use Rattle.ld_words.specs.Words.{are_options, contains, intent_of, is_option, task_of, with_options, with_rest};
 
 use crate::value::{is_argument, one_word, two_words, value_fits};
 
@@ -31,12 +31,24 @@ fn is_command_with(command: &str, word: &str, rest: &[String]) -> bool
         [] => one_word(command, word).is_some(),
         [next, options @ ..] => {
             if is_argument(next.as_str()) {
-                two_words(command, word, next.as_str()).is_some() && are_options(options)
+                is_two_word_command(command, word, next.as_str(), options)
             } else {
-                one_word(command, word).is_some() && are_options(rest)
+                is_one_word_command(command, word, rest)
             }
         }
     }
+}
+
+fn is_one_word_command(command: &str, word: &str, options: &[String]) -> bool
+    ensures { result ≡ is_some (with_options (map string_bytes options.now) (task_of command.now word.now None)) }
+{
+    are_options(options) && one_word(command, word).is_some()
+}
+
+fn is_two_word_command(command: &str, word: &str, second: &str, options: &[String]) -> bool
+    ensures { result ≡ is_some (with_options (map string_bytes options.now) (task_of command.now word.now (Some second.now))) }
+{
+    are_options(options) && two_words(command, word, second).is_some()
 }
 
 fn are_options(words: &[String]) -> bool

@@ -1,7 +1,8 @@
 ghost use Rattle.std.specs.Prelude.{◌≡◌, ◌∷◌, IfErr, IfOk, IfSome, IsSome, List, ℕ, Some, codes, map, option_map, string_bytes};
+ghost use Rattle.clap.specs.Simple.{App};
 ghost use Rattle.clap.specs.Words.{app_of, first_value, found_of, kind_of, new_rule, with_rule};
 ghost use Rattle.ld_line.specs.Colour.{colour_word};
-ghost use Rattle.ld_words.specs.Ldraw.{intent_from, ldraw, ldraw_places, with_option};
+ghost use Rattle.ld_words.specs.Ldraw.{intent_from, ldraw, ldraw_places, task_from, with_option};
 ghost use Rattle.ld_words.specs.Shown.{intent_shown, options_shown, task_shown};
 ghost use Rattle.ld_words.specs.Words.{Intent, IsBetween, IsBounded, IsBoundedTask, intent_of, most_cache, most_depth, most_entries, most_workers, number_in, options_from, task_of, value_or};
 
@@ -64,12 +65,12 @@ fn matches_of_words<'a>(alloc: Global, words: &'a [&'a str]) -> Result<ArgMatche
 fn make_command<'a>(alloc: Global) -> Result<Command<'a>, AllocError>
     ensures { IfOk result (λ c. app_of c ≡ ldraw) }
 {
-    let command = make_places(alloc)?;
-    let command = with_option(command, alloc, "--colours", "colours")?;
-    let command = with_option(command, alloc, "--main", "main")?;
-    let command = with_option(command, alloc, "--workers", "workers")?;
-    let command = with_option(command, alloc, "--max-entries", "max-entries")?;
-    let command = with_option(command, alloc, "--max-depth", "max-depth")?;
+    let command = make_places(alloc);
+    let command = with_option(command, alloc, "--colours", "colours");
+    let command = with_option(command, alloc, "--main", "main");
+    let command = with_option(command, alloc, "--workers", "workers");
+    let command = with_option(command, alloc, "--max-entries", "max-entries");
+    let command = with_option(command, alloc, "--max-depth", "max-depth");
     with_option(command, alloc, "--cache", "cache")
 }
 
@@ -93,31 +94,36 @@ fn with_place<'a>(
     command.arg(Arg::new(alloc, id))
 }
 
-// The option's id is the word itself, with its hyphens.
+// A command that was made, with one option more. The option's id is the word itself, with its hyphens.
 fn with_option<'a>(
-    command: Command<'a>,
+    command: Result<Command<'a>, AllocError>,
     alloc: Global,
     name: &'a str,
     long: &'a str,
 ) -> Result<Command<'a>, AllocError>
-    ensures { IfOk result (λ c. app_of c ≡ with_option name.entry.now long.entry.now (app_of command.entry)) }
+    ensures { (app : App) → IfOk command.entry (λ c. app_of c ≡ app) → IfOk result (λ c. app_of c ≡ with_option name.entry.now long.entry.now app) }
 {
-    command.arg(Arg::new(alloc, name).long(long))
+    command?.arg(Arg::new(alloc, name).long(long))
 }
 
 fn request_from<'a>(matches: &ArgMatches<'a>) -> Option<Request<'a>>
     ensures intent { option_map intent_shown result ≡ intent_from (first_value (found_of matches.now)) }
     ensures bounds { IfSome result (λ request. IsBounded (intent_shown request)) }
 {
-    let task = task_from(
-        matches.get_str("command")?,
-        matches.get_str("word")?,
-        matches.get_str("second"),
-    )?;
+    let task = task_in(matches)?;
     Some(Request {
         task,
         options: options_from(matches),
     })
+}
+
+fn task_in<'a>(matches: &ArgMatches<'a>) -> Option<Task<'a>>
+    ensures task { option_map task_shown result ≡ task_from (first_value (found_of matches.now) (codes "command")) (first_value (found_of matches.now) (codes "word")) (first_value (found_of matches.now) (codes "second")) }
+    ensures bounds { IfSome result (λ task. IsBoundedTask (task_shown task)) }
+{
+    let command = matches.get_str("command")?;
+    let word = matches.get_str("word")?;
+    task_from(command, word, matches.get_str("second"))
 }
 
 fn task_from<'a>(command: &str, word: &'a str, second: Option<&'a str>) -> Option<Task<'a>>

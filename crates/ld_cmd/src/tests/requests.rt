@@ -1,8 +1,10 @@
 //! Worked lists of words.
 
-use ld_words::{Options, Task, given_words, is_command, read_request};
+ghost use Rattle.std.specs.Prelude.{IsSome, map, string_bytes};
+ghost use Rattle.ld_words.specs.Words.{intent_of};
+
+use ld_words::{Options, Request, Task, given_words, is_command, read_request};
 use std::alloc::{AllocError, Global};
-use std::test::Fail;
 
 // Words with a space between each two, `%` being an empty word, and whether they are in the grammar, or
 // the request that they make: its task, then the colour file and the numbers of the options.
@@ -126,59 +128,88 @@ replay m.mpd s.txt --workers 1 => replay m.mpd s.txt, - 16 1 2000000 32 524288
 gen 0000000025 --max-entries 3 => gen 25, - 16 4 3 32 524288
 faces m.ldr --cache 7 --max-depth 2 --max-entries 4000000 --workers 16 --main 0x2ff8000 --colours c.ldr => Faces m.ldr, c.ldr 50298880 16 4000000 2 7";
 
+fn push_word(alloc: Global, word: &str, into: &mut Vec<String>) -> Result<(), AllocError> {
+    let text = if word == "%" { "" } else { word };
+    let word = String::from_str(alloc, text)?;
+    into.push(word)?;
+    Ok(())
+}
+
 fn words(alloc: Global, text: &str) -> Result<Vec<String>, AllocError> {
     let mut words = Vec::new(alloc);
-    if !text.is_empty() {
-        for word in text.split(' ') {
-            words.push(String::from_str(alloc, if word == "%" { "" } else { word })?)?;
-        }
+    if text.is_empty() {
+        return Ok(words);
+    }
+    for word in text.split(' ') {
+        push_word(alloc, word, &mut words)?;
     }
     Ok(words)
 }
 
-fn task_text(alloc: Global, task: Task) -> Result<String, Fail> {
-    Ok(match task {
-        Task::Show(what, file) => format!(in alloc; "{what:?} {file}")?,
-        Task::Replay(file, script) => format!(in alloc; "replay {file} {script}")?,
-        Task::Generate(count) => format!(in alloc; "gen {count}")?,
-    })
+fn task_text(alloc: Global, task: Task) -> Result<String, AllocError> {
+    match task {
+        Task::Show(what, file) => format!(in alloc; "{what:?} {file}"),
+        Task::Replay(file, script) => format!(in alloc; "replay {file} {script}"),
+        Task::Generate(count) => format!(in alloc; "gen {count}"),
+    }
 }
 
-fn options_text(alloc: Global, options: Options) -> Result<String, Fail> {
-    let colours = options.colours.unwrap_or("-");
-    let limits = format!(in alloc;
+fn limits_text(alloc: Global, options: &Options) -> Result<String, AllocError> {
+    format!(in alloc;
         "{} {} {}",
         options.max_entries, options.max_depth, options.cache
-    )?;
-    Ok(format!(in alloc; "{colours} {} {} {limits}", options.main, options.workers)?)
+    )
+}
+
+fn options_text(alloc: Global, options: &Options) -> Result<String, AllocError> {
+    let colours = options.colours.unwrap_or("-");
+    let limits = limits_text(alloc, options)?;
+    format!(in alloc; "{colours} {} {} {limits}", options.main, options.workers)
+}
+
+fn shown(alloc: Global, request: &Request) -> Result<String, AllocError> {
+    let task = task_text(alloc, request.task)?;
+    let options = options_text(alloc, &request.options)?;
+    format!(in alloc; "{task}, {options}")
+}
+
+fn read(alloc: Global, words: &[String]) -> Result<String, AllocError>
+    requires { IsSome (intent_of (map string_bytes words.now)) }
+{
+    let given = given_words(alloc, words)?;
+    let request = read_request(alloc, words, given.as_slice())?;
+    shown(alloc, &request)
 }
 
 // The request that the words make, if they are in the grammar.
-fn request_text(alloc: Global, text: &str) -> Result<Option<String>, Fail> {
+fn request_text(alloc: Global, text: &str) -> Result<Option<String>, AllocError> {
     let words = words(alloc, text)?;
     if !is_command(words.as_slice()) {
         return Ok(None);
     }
-    let given = given_words(alloc, words.as_slice())?;
-    let request = read_request(alloc, words.as_slice(), given.as_slice())?;
-    let task = task_text(alloc, request.task)?;
-    let options = options_text(alloc, request.options)?;
-    Ok(Some(format!(in alloc; "{task}, {options}")?))
+    let text = read(alloc, words.as_slice())?;
+    Ok(Some(text))
 }
 
 // Whether the words make this request: any one for `yes`, and none for `no`.
-fn is_asked(alloc: Global, text: &str, want: &str) -> Result<bool, Fail> {
+fn is_asked(alloc: Global, text: &str, want: &str) -> Result<bool, AllocError> {
     match request_text(alloc, text)? {
         Some(request) => Ok(want == "yes" || request.as_str() == want),
         None => Ok(want == "no"),
     }
 }
 
+fn row_holds(alloc: Global, row: &str) -> Result<bool, AllocError> {
+    match row.split_once(" => ") {
+        Some((text, want)) => is_asked(alloc, text, want),
+        None => Ok(false),
+    }
+}
+
 #[test]
-fn requests_of_words(rt: HostRuntime) -> Result<(), Fail> {
+fn requests_of_words(rt: HostRuntime) -> Result<(), AllocError> {
     for row in WORDS.lines() {
-        let (text, want) = row.split_once(" => ").ok_or("a row without =>")?;
-        assert!(rt; is_asked(rt.alloc(), text, want)?, "{text}");
+        assert!(rt; row_holds(rt.alloc(), row)?, "{row}");
     }
     Ok(())
 }

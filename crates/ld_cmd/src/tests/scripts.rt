@@ -120,45 +120,58 @@ fn file_shown(alloc: Global, file: &FileId) -> Result<String, AllocError> {
     format!(in alloc; "{:?} {name}", file.folder)
 }
 
+fn named_shown(alloc: Global, what: &str, file: &FileId) -> Result<String, AllocError> {
+    let file = file_shown(alloc, file)?;
+    format!(in alloc; "{what} {file}")
+}
+
+fn line_shown(alloc: Global, what: &str, file: &FileId, line: u32) -> Result<String, AllocError> {
+    let file = file_shown(alloc, file)?;
+    format!(in alloc; "{what} {file} {line}")
+}
+
+fn text_line_shown(
+    alloc: Global,
+    what: &str,
+    file: &FileId,
+    line: u32,
+    text: &[u8],
+) -> Result<String, AllocError> {
+    let line = line_shown(alloc, what, file, line)?;
+    let text = text_shown(alloc, text)?;
+    format!(in alloc; "{line} <{text}>")
+}
+
+fn move_shown(alloc: Global, from: &FileId, to: &FileId) -> Result<String, AllocError> {
+    let from = file_shown(alloc, from)?;
+    let to = file_shown(alloc, to)?;
+    format!(in alloc; "Move {from} {to}")
+}
+
 fn edit_shown(alloc: Global, edit: &Edit) -> Result<String, AllocError> {
     match edit {
         Edit::Set { file, line, text } => {
-            let text = text_shown(alloc, text.as_slice())?;
-            let file = file_shown(alloc, file)?;
-            format!(in alloc; "Set {file} {line} <{text}>")
+            text_line_shown(alloc, "Set", file, *line, text.as_slice())
         }
         Edit::Insert { file, line, text } => {
-            let text = text_shown(alloc, text.as_slice())?;
-            let file = file_shown(alloc, file)?;
-            format!(in alloc; "Insert {file} {line} <{text}>")
+            text_line_shown(alloc, "Insert", file, *line, text.as_slice())
         }
-        Edit::Delete { file, line } => {
-            let file = file_shown(alloc, file)?;
-            format!(in alloc; "Delete {file} {line}")
-        }
-        Edit::New { file } => {
-            let file = file_shown(alloc, file)?;
-            format!(in alloc; "New {file}")
-        }
-        Edit::Drop { file } => {
-            let file = file_shown(alloc, file)?;
-            format!(in alloc; "Drop {file}")
-        }
-        Edit::Move { from, to } => {
-            let from = file_shown(alloc, from)?;
-            let to = file_shown(alloc, to)?;
-            format!(in alloc; "Move {from} {to}")
-        }
+        Edit::Delete { file, line } => line_shown(alloc, "Delete", file, *line),
+        Edit::New { file } => named_shown(alloc, "New", file),
+        Edit::Drop { file } => named_shown(alloc, "Drop", file),
+        Edit::Move { from, to } => move_shown(alloc, from, to),
     }
+}
+
+fn root_shown(alloc: Global, query: Query, root: &Root) -> Result<String, AllocError> {
+    let file = file_shown(alloc, &root.file)?;
+    format!(in alloc; "{query:?} {file} {}", root.colour)
 }
 
 fn query_shown(alloc: Global, query: Query, root: &Option<Root>) -> Result<String, AllocError> {
     match root {
         None => format!(in alloc; "{query:?}"),
-        Some(Root { file, colour }) => {
-            let file = file_shown(alloc, file)?;
-            format!(in alloc; "{query:?} {file} {colour}")
-        }
+        Some(root) => root_shown(alloc, query, root),
     }
 }
 
@@ -170,14 +183,17 @@ fn command_shown(alloc: Global, command: &Command) -> Result<String, AllocError>
     }
 }
 
+fn push_shown(alloc: Global, command: &Command, into: &mut String) -> Result<(), AllocError> {
+    let before = if into.is_empty() { "" } else { ", " };
+    let command = command_shown(alloc, command)?;
+    into.push_str(before)?;
+    into.push_str(command.as_str())
+}
+
 fn commands_shown(alloc: Global, commands: &[Command]) -> Result<String, AllocError> {
     let mut shown = String::new(alloc);
     for command in commands {
-        if !shown.is_empty() {
-            shown.push_str(", ")?;
-        }
-        let command = command_shown(alloc, command)?;
-        shown.push_str(command.as_str())?;
+        push_shown(alloc, command, &mut shown)?;
     }
     Ok(shown)
 }
