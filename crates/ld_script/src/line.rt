@@ -108,6 +108,7 @@ fn read_text_command(
     text_command(alloc, word, file, field, text)
 }
 
+#[inline]
 fn text_command(
     alloc: Global,
     word: &[u8],

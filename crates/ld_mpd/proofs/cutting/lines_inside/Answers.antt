@@ -1,4 +1,4 @@
-use Rattle.std.proofs.Common.{◌≡◌, ◌++◌, [], ◌∷◌, ap, append_assoc, arith, sym, ◌∙◌}
+use Rattle.std.proofs.Common.{◌++◌, [], ◌∷◌, ap, append_assoc, arith, sym, ◌∙◌}
 use Rattle.ld_line.specs.Cut.{lines_from}
 use Rattle.ld_mpd.specs.Blocks.{inside}
 use Rattle.ld_mpd.proofs.cutting.lines_inside.Goals as goal

@@ -1,5 +1,4 @@
-use Rattle.std.proofs.Common.{◌≡◌, ◌++◌, ap, ◌∙◌}
-use Rattle.std.specs.List.{flat_map}
+use Rattle.std.proofs.Common.{◌++◌, ap, ◌∙◌}
 use Rattle.ld_colour.specs.Table.{counting}
 use Rattle.ld_report.specs.Entries.{entries_text, entry_text}
 use Rattle.ld_report.proofs.Extending.{appended, same, through}

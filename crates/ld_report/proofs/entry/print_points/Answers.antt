@@ -1,4 +1,4 @@
-use Rattle.std.proofs.Common.{◌≡◌, ℕ, List, ◌++◌, append_assoc, codes, ap, ◌∙◌}
+use Rattle.std.proofs.Common.{ℕ, List, ◌++◌, append_assoc, codes, ap, ◌∙◌}
 use Rattle.ld_num.specs.declared.point.Point.{Point}
 use Rattle.ld_report.specs.Pieces.{point_text}
 use Rattle.ld_report.proofs.Extending.{appended, same, through}

@@ -1,4 +1,3 @@
-use Rattle.std.proofs.Common.{◌≡◌, ◌++◌}
 use Rattle.ld_report.specs.Findings.{finding_words, findings_text}
 use Rattle.ld_report.specs.Pieces.{line_text}
 use Rattle.ld_report.proofs.Extending.{appended, through}

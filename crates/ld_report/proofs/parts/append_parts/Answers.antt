@@ -1,4 +1,3 @@
-use Rattle.std.proofs.Common.{◌≡◌, ◌++◌}
 use Rattle.ld_colour.specs.declared.colour.Colour.TheVariants.{Main}
 use Rattle.ld_report.specs.Parts.{part_words, parts_text}
 use Rattle.ld_report.specs.Pieces.{line_text}

@@ -1,4 +1,4 @@
-use Rattle.std.proofs.Common.{◌≡◌, ℕ, List, ◌++◌, append_assoc, codes, ap, ◌∙◌}
+use Rattle.std.proofs.Common.{ℕ, List, ◌++◌, append_assoc, codes, ap, ◌∙◌}
 use Rattle.ld_steps.specs.declared.step.Turn.{Turn}
 use Rattle.ld_report.specs.Steps.{turn_text}
 use Rattle.ld_report.proofs.Extending.{after, appended, same, through}
