@@ -1,8 +1,8 @@
--- The output of a model and of a script, by what is read and loaded for it.
-use Rattle.std.proofs.Common.{◌≡◌, List, [], ℕ, Option, Some, None, Result, Ok, IfSome, sym, refl}
+-- The output of a file, of a model and of a script, by what is read and loaded for it.
+use Rattle.std.proofs.Common.{◌≡◌, List, [], ℕ, Option, Some, None, Result, Ok, Err, IfSome, sym, refl}
 use Rattle.ld_io.specs.Shelf.{Files}
 use Rattle.ld_io.specs.declared.shelf.Place.TheVariants.{Work}
-use Rattle.ld_colour.specs.Table.{Counting}
+use Rattle.ld_colour.specs.Table.{Counting, counting}
 use Rattle.ld_script.specs.Script.{commands_of}
 use Rattle.ld_words.specs.Words.{Options}
 use Rattle.ld_cmd.specs.Output.{input, limits_of, loaded_by, main_file, main_output, model_output, own_name, replay_output, replayed, table_of}
@@ -12,9 +12,31 @@ use Rattle.ld_names.specs.Standing.{Known}
 use Rattle.ld_names.specs.declared.file.FileId.{FileId}
 use Rattle.ld_engine.specs.Loading.{load}
 use Rattle.ld_engine.specs.declared.asking.Answer.{Answer}
-use Rattle.ld_cmd.specs.Written.{Output}
+use Rattle.ld_cmd.specs.Made.{Gives, Makes}
+use Rattle.ld_cmd.specs.Written.{Output, and_then}
+use Rattle.ld_cmd.specs.declared.made.Made.{Made}
 use Rattle.ld_cmd.specs.declared.made.Stop.{Stop}
+use Rattle.ld_cmd.specs.declared.made.Stop.TheVariants.{Decided, ReadFault, Memory}
 use Rattle.ld_cmd.specs.declared.session.Session.{Session}
+
+pub any-files : {X : Type 0} (files : Option Files) → X → IfSome files (λ all. X)
+any-files None is = tt
+any-files (Some files) is = is
+
+-- a file is read, then the colours, and the rest goes on from there
+module _ (file bytes : List ℕ) (colours : Option (List ℕ)) (wanted : Files → List ℕ → Counting → Output) where
+  abbrev pub WhatIsRead : Files → Output
+  WhatIsRead all = and_then (input file (all Work file)) (λ read. and_then (table_of colours all) (wanted all read))
+
+  pub read-told : (files : Option Files) (table : Counting) (result : Result Made Stop) → IfSome files (λ all. input file (all Work file) ≡ Ok bytes) → IfSome files (λ all. table_of colours all ≡ Ok table) → IfSome files (λ all. Makes (wanted all bytes table) result) → IfSome files (λ all. Makes (WhatIsRead all) result)
+  read-told None table result read coloured makes = tt
+  read-told (Some files) table result read coloured makes = rw read (rw coloured makes)
+
+  pub read-stopped : (files : Option Files) (stop : Stop) → IfSome files (λ all. input file (all Work file) ≡ Ok bytes) → IfSome files (λ all. Gives counting (table_of colours all) (Err stop)) → IfSome files (λ all. Makes (WhatIsRead all) (Err stop))
+  read-stopped None stop read coloured = tt
+  read-stopped (Some files) (Decided made) read coloured = rw read (rw coloured refl)
+  read-stopped (Some files) ReadFault read coloured = tt
+  read-stopped (Some files) Memory read coloured = tt
 
 pub replay-told : (files : Option Files) (file script own bytes lines : List ℕ) (options : Options) (table : Counting) (result : Result Session Stop) → IfSome files (λ all. input file (all Work file) ≡ Ok bytes) → IfSome files (λ all. input script (all Work script) ≡ Ok lines) → IfSome files (λ all. table_of options.colours all ≡ Ok table) → own ≡ own_name file → ((all : Files) → OpensSession (replayed options table (commands_of lines) all own bytes) all result) → IfSome files (λ all. OpensSession (replay_output file script options all) all result)
 replay-told None file script own bytes lines options table result read script_read coloured named opens = tt
