@@ -5,8 +5,6 @@
 mod culling;
 mod laws;
 mod passing;
-#[cfg(test)]
-mod tests;
 
 pub use culling::{Cert, State, face, next, start};
 pub use laws::{quiet_line_law, state_laws, with_laws};

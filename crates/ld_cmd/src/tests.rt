@@ -10,6 +10,7 @@ ghost use Rattle.ld_cmd.specs.Written.{one_piece};
 ghost use Rattle.ld_cmd.specs.declared.folders.Unusable.TheVariants.{Memory, NotText};
 ghost use Rattle.ld_cmd.specs.declared.status.Status.TheVariants as status;
 
+mod blocks;
 mod commands;
 mod edits;
 mod faces;
@@ -21,6 +22,7 @@ mod outside;
 mod printed;
 mod requests;
 mod scripts;
+mod stepping;
 mod threads;
 mod words;
 

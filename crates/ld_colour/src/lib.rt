@@ -6,10 +6,6 @@ mod colour;
 mod definition;
 mod laws;
 mod table;
-#[cfg(test)]
-mod table_tests;
-#[cfg(test)]
-mod tests;
 
 pub use colour::{Colour, colour_of, edge, under};
 pub use laws::{lawful_colours, under_laws};

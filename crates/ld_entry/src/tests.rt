@@ -1,12 +1,19 @@
 //! Entries below references, and worked models by the definition of recursive expansion.
 ghost use Rattle.ld_entry.specs.Rows.{AbsentRoot, AsManyAsAllowed, CertificationPassed, CertificationRefused, CertificationStopped, ChainOf64, ChainOf65, ClipAndWinding, Colours, CycleFromTheFirst, CycleFromTheSecond, DepthOfOne, DepthOfThree, DepthOfTwo, DirectColours, EarlierFaultFromOutside, EndsOfAnOrdinaryModel, FirstOfAnOrdinaryModel, InvertnextAndMirror, MatrixOfZeros, MirrorAlone, NameWithoutNormalForm, NoFaultFromOutside, NoLineType, NumberOutOfRange, OneEntryAllowed, OneTooMany, OnlyEntryAllowed, ReferenceToItself, ReferenceWithoutFile, RootWithoutLines, RoundingAtEachReference, UnknownRoot};
 
+mod colours;
+mod lines;
+mod names;
+mod numbers;
+mod states;
+mod tables;
+
 use crate::{Entry, Fault, Outer, Source, What, carry};
-use ld_bfc::Below;
-use ld_colour::{Colour, colour_of};
-use ld_line::{Kind, Line, Winding, read_line};
-use ld_names::TextId;
-use ld_num::{Placement, Point};
+use ld_bfc::{Below, State};
+use ld_colour::{Colour, Table, TableError, colour_of};
+use ld_line::{BfcWord, BlockLine, Kind, Line, RotWord, Winding, read_line};
+use ld_names::{FileId, Folders, Lines, NameError, TextId};
+use ld_num::{Dec, NumError, Placement, Point};
 use std::alloc::Global;
 use std::mem::size_of;
 
@@ -229,6 +236,25 @@ fn types_cross_threads() {
     crosses_threads::<Entry>();
     crosses_threads::<Fault>();
     crosses_threads::<Outer>();
+    crosses_threads::<Dec>();
+    crosses_threads::<Point>();
+    crosses_threads::<Placement>();
+    crosses_threads::<NumError>();
+    crosses_threads::<FileId>();
+    crosses_threads::<TextId>();
+    crosses_threads::<Folders>();
+    crosses_threads::<Lines>();
+    crosses_threads::<NameError>();
+    crosses_threads::<Line>();
+    crosses_threads::<Kind>();
+    crosses_threads::<BfcWord>();
+    crosses_threads::<RotWord>();
+    crosses_threads::<BlockLine>();
+    crosses_threads::<State>();
+    crosses_threads::<Below>();
+    crosses_threads::<Colour>();
+    crosses_threads::<Table>();
+    crosses_threads::<TableError>();
 }
 
 // Points and colours below references, by the definition.

@@ -12,8 +12,6 @@ mod line;
 mod meta;
 mod number;
 mod read;
-#[cfg(test)]
-mod tests;
 
 pub use block::block_line;
 pub use colour::read_colour;

@@ -7,8 +7,6 @@ mod cutting;
 mod joining;
 mod laws;
 mod seen;
-#[cfg(test)]
-mod tests;
 
 pub use block::Block;
 pub use cutting::{split, text_of};

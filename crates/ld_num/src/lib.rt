@@ -17,6 +17,3 @@ pub use placing::{mirrored, place, singular};
 pub use point::{Placement, Point};
 pub use print::print_dec;
 pub use read::{read_dec, split_dec};
-
-#[cfg(test)]
-mod tests;

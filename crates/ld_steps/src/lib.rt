@@ -4,8 +4,6 @@
 mod laws;
 mod marking;
 mod step;
-#[cfg(test)]
-mod tests;
 mod view;
 
 pub use laws::{part_law, step_laws};

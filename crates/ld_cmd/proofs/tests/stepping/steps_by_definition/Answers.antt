@@ -5,7 +5,7 @@ use Rattle.ld_line.specs.Reading.{line_of}
 use Rattle.ld_num.specs.Number.{dec_of, millionths_of, numeral_of, powers_of}
 use Rattle.ld_steps.specs.Parts.{step_parts}
 use Rattle.ld_steps.specs.Steps.{steps_of}
-use Rattle.ld_steps.proofs.tests.steps_by_definition.Goals as goal
+use Rattle.ld_cmd.proofs.tests.stepping.steps_by_definition.Goals as goal
 
 -- what the examples compute with
 opened : ℕ

@@ -5,9 +5,9 @@ ghost use Rattle.ld_steps.specs.Parts.{step_parts};
 ghost use Rattle.ld_steps.specs.Steps.{steps_of};
 ghost use Rattle.ld_steps.specs.declared.step.StepMark.{StepMark};
 
-use crate::{StepMark, Turn, steps_of};
 use ld_line::{Line, read_line};
 use ld_num::{Dec, print_dec};
+use ld_steps::{StepMark, Turn, steps_of};
 use std::alloc::{AllocError, Global};
 use std::test::Fail;
 

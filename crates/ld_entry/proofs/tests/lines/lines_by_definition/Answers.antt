@@ -5,7 +5,7 @@ use Rattle.ld_line.specs.Colour.{colour_word}
 use Rattle.ld_line.specs.Cut.{lines_of}
 use Rattle.ld_line.specs.Field.{after_field, fields}
 use Rattle.ld_line.specs.Reading.{line_of}
-use Rattle.ld_line.proofs.tests.lines_by_definition.Goals as goal
+use Rattle.ld_entry.proofs.tests.lines.lines_by_definition.Goals as goal
 
 pub returns-clause-cut : goal.returns-clause-cut
 unfolding lines_of

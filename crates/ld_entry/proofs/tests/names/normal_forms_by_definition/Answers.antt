@@ -1,6 +1,6 @@
 use Rattle.std.proofs.Common.{refl}
 use Rattle.ld_names.specs.Normal.{normal_of}
-use Rattle.ld_names.proofs.tests.normal_forms_by_definition.Goals as goal
+use Rattle.ld_entry.proofs.tests.names.normal_forms_by_definition.Goals as goal
 
 pub returns-clause-same : goal.returns-clause-same
 unfolding normal_of

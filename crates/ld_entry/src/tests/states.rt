@@ -9,7 +9,7 @@ ghost use Rattle.ld_bfc.specs.LineState.{face, start, state_before};
 ghost use Rattle.ld_bfc.specs.Passing.{below, neutral, with};
 ghost use Rattle.ld_bfc.specs.declared.culling.Cert.TheVariants.{No, Silent, Yes};
 
-use crate::{Below, Cert, State, below_of, face, next, start, with};
+use ld_bfc::{Below, Cert, State, below_of, face, next, start, with};
 use ld_line::{Winding, read_line};
 use std::alloc::{AllocError, Global};
 
@@ -195,14 +195,6 @@ fn two_references(rt: HostRuntime) {
     assert!(rt; are_with(turned, plain, turned));
     assert!(rt; are_with(bare, turned, below(false, false, true)));
     assert!(rt; are_with(turned, below(true, false, false), below(true, false, true)));
-}
-
-fn crosses_threads<T: Send + Sync>() {}
-
-#[test]
-fn types_cross_threads() {
-    crosses_threads::<State>();
-    crosses_threads::<Below>();
 }
 
 // The definitions, by computing.

@@ -5,7 +5,7 @@ use Rattle.ld_line.specs.Cut.{lines_of}
 use Rattle.ld_line.specs.Field.{after_field, fields}
 use Rattle.ld_mpd.specs.Blocks.{blocks_of, text_blocks, text_of}
 use Rattle.ld_mpd.specs.Joining.{join_of}
-use Rattle.ld_mpd.proofs.tests.blocks_by_definition.Goals as goal
+use Rattle.ld_cmd.proofs.tests.blocks.blocks_by_definition.Goals as goal
 
 pub returns-clause-outside : goal.returns-clause-outside
 unfolding blocks_of text_of text_blocks lines_of block_line_of fields after_field normal_of

@@ -4,7 +4,7 @@ use Rattle.ld_line.specs.Digits.{decimal_number}
 use Rattle.ld_line.specs.Field.{fields}
 use Rattle.ld_colour.specs.Definition.{colour_line}
 use Rattle.ld_colour.specs.Table.{definitions_of, rgb_in}
-use Rattle.ld_colour.proofs.table_tests.tables_by_definition.Goals as goal
+use Rattle.ld_entry.proofs.tests.tables.tables_by_definition.Goals as goal
 
 -- what the examples compute with
 opened : ℕ

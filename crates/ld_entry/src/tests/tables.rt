@@ -6,8 +6,8 @@ ghost use Rattle.ld_colour.specs.Table.{definitions_of, last_definition, rgb_in}
 ghost use Rattle.ld_colour.specs.declared.colour.Colour.TheVariants.{Code, Direct, Edge, EdgeOf, Main};
 ghost use Rattle.ld_colour.specs.declared.definition.DefinedEdge.TheVariants.{Value, ValueOf};
 
-use crate::Colour::{self, Code, Direct, Edge, EdgeOf, Main};
-use crate::{Table, TableError};
+use ld_colour::Colour::{self, Code, Direct, Edge, EdgeOf, Main};
+use ld_colour::{Table, TableError};
 use std::alloc::{AllocError, Global};
 
 // A line, and what a file of that line defines: a code with its VALUE and its EDGE, or nothing, or

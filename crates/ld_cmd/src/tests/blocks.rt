@@ -4,7 +4,7 @@ ghost use Rattle.ld_mpd.specs.Blocks.{block, blocks_of, text_of};
 ghost use Rattle.ld_mpd.specs.Joining.{join_of};
 ghost use Rattle.ld_mpd.specs.declared.joining.JoinError.TheVariants.{BadBlock, NoText};
 
-use crate::{Block, JoinError, join, split, text_of};
+use ld_mpd::{Block, JoinError, join, split, text_of};
 use ld_names::{Bytes, Lines, normal};
 use std::alloc::{AllocError, Global};
 use std::slice;

@@ -5,7 +5,7 @@ ghost use Rattle.ld_names.specs.declared.file.FileId.{FileId};
 ghost use Rattle.ld_names.specs.declared.file.Folder.TheVariants.{Model, P, Parts};
 ghost use Rattle.ld_names.specs.declared.name.NameError.TheVariants.{Control, Empty, NotRelative, TooLong};
 
-use crate::*;
+use ld_names::{Bytes, FileId, Folder, Folders, Lines, List, Name, NameError, normal, order};
 use std::alloc::{AllocError, Global};
 use std::cmp::Ordering;
 
@@ -184,17 +184,6 @@ fn lists(rt: HostRuntime) {
     assert!(rt; is_one_line(one_line(alloc), &[1, 2, 3]));
 }
 
-fn crosses_threads<T: Send + Sync>() {}
-
-#[test]
-fn types_cross_threads() {
-    crosses_threads::<FileId>();
-    crosses_threads::<TextId>();
-    crosses_threads::<Folders>();
-    crosses_threads::<Lines>();
-    crosses_threads::<NameError>();
-}
-
 // The definitions, by computing.
 fn normal_forms_by_definition()
     ensures same { map normal_of (codes "S\\3001S01.DAT" ∷ codes "s/3001s01.dat" ∷ []) ≡ replicate 2 (Ok (codes "s/3001s01.dat")) }
@@ -204,7 +193,7 @@ fn normal_forms_by_definition()
     ensures control { normal_of (97 ∷ 1 ∷ 98 ∷ []) ≡ Err Control }
 {}
 
-#[tactic(auto, unfolding(crate::specs::Standing::find, crate::specs::Standing::known_map, crate::specs::Standing::same_file, crate::specs::Standing::folders_of, crate::specs::Standing::standing))]
+#[tactic(auto, unfolding(ld_names::specs::Standing::find, ld_names::specs::Standing::known_map, ld_names::specs::Standing::same_file, ld_names::specs::Standing::folders_of, ld_names::specs::Standing::standing))]
 fn lookups_by_definition()
     ensures unknown { find (λ _. None) P (codes "x") ≡ Unknown Parts }
     ensures absent { find (λ _. Some None) Model (codes "x") ≡ Absent }

@@ -3,8 +3,8 @@ ghost use Rattle.std.specs.Prelude.{◌≡◌, [], ◌∷◌, map};
 ghost use Rattle.ld_colour.specs.Colour.{colour_of, edge, under};
 ghost use Rattle.ld_colour.specs.declared.colour.Colour.TheVariants.{Code, Direct, Edge, EdgeOf, Main};
 
-use crate::Colour::{self, Code, Direct, Edge, EdgeOf, Main};
-use crate::{Table, TableError, colour_of, edge, under};
+use ld_colour::Colour::{self, Code, Direct, Edge, EdgeOf, Main};
+use ld_colour::{Table, TableError, colour_of, edge, under};
 
 // Whether a word of a line stands for a colour.
 fn stands_for(word: u32, colour: Colour) -> bool {
@@ -68,15 +68,6 @@ fn edges_and_inheritance(rt: HostRuntime) {
     }
     assert!(rt; is_under(Edge, Direct(1), Direct(0x333333)));
     assert!(rt; is_under(Edge, EdgeOf(7), EdgeOf(7)));
-}
-
-fn crosses_threads<T: Send + Sync>() {}
-
-#[test]
-fn types_cross_threads() {
-    crosses_threads::<Colour>();
-    crosses_threads::<Table>();
-    crosses_threads::<TableError>();
 }
 
 // The definitions, by computing.

@@ -3,11 +3,13 @@ ghost use Rattle.ld_num.specs.Examples.{at, enlarged, origin};
 ghost use Rattle.ld_num.specs.Number.{dec_of};
 ghost use Rattle.ld_num.specs.Placing.{is_mirrored, is_singular, moved};
 
-use super::*;
+use ld_num::{
+    Dec, NumError, Placement, Point, mirrored, place, print_dec, read_dec, singular, split_dec,
+};
 use std::alloc::{AllocError, Global};
 
 // The definitions compute.
-#[tactic(auto, unfolding(crate::specs::Number::dec_of, crate::specs::Number::numeral_of, crate::specs::Number::powers_of))]
+#[tactic(auto, unfolding(ld_num::specs::Number::dec_of, ld_num::specs::Number::numeral_of, ld_num::specs::Number::powers_of))]
 fn numerals_compute()
     ensures tie { dec_of (codes "1.0000005") ≡ Ok (pos 1000001) }
     ensures negative { dec_of (codes "-.5") ≡ Ok (negsuc 499999) }
@@ -22,7 +24,7 @@ fn numerals_compute()
 {}
 
 // Placements by the definition: a point through two references, each of which rounds; ties; a matrix of zeros; the range.
-#[tactic(auto, unfolding(crate::specs::Placing::moved, crate::specs::Placing::is_mirrored, crate::specs::Placing::is_singular))]
+#[tactic(auto, unfolding(ld_num::specs::Placing::moved, ld_num::specs::Placing::is_mirrored, ld_num::specs::Placing::is_singular))]
 fn placements_compute()
     ensures inner { moved (enlarged origin (pos 333333)) (at (pos 1000000) (pos 1000001) (pos 1500000)) ≡ Some (at (pos 333333) (pos 333333) (pos 500000)) }
     ensures outer { moved (enlarged origin (pos 1500000)) (at (pos 333333) (pos 333333) (pos 0)) ≡ Some (at (pos 500000) (pos 500000) (pos 0)) }
@@ -376,14 +378,4 @@ fn tells_each_matrix(rt: HostRuntime) {
     for row in MATRICES.lines() {
         assert!(rt; matrix_holds(row), "{row}");
     }
-}
-
-fn crosses_threads<T: Send + Sync>() {}
-
-#[test]
-fn types_cross_threads() {
-    crosses_threads::<Dec>();
-    crosses_threads::<Point>();
-    crosses_threads::<Placement>();
-    crosses_threads::<NumError>();
 }

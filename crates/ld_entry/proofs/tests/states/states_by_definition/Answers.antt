@@ -4,7 +4,7 @@ use Rattle.ld_line.specs.Field.{after_field, fields}
 use Rattle.ld_line.specs.Reading.{line_of}
 use Rattle.ld_bfc.specs.LineState.{next, state_before}
 use Rattle.ld_bfc.specs.Passing.{below}
-use Rattle.ld_bfc.proofs.tests.states_by_definition.Goals as goal
+use Rattle.ld_entry.proofs.tests.states.states_by_definition.Goals as goal
 
 -- what the examples compute with
 opened : ℕ
