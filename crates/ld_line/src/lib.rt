@@ -1,4 +1,11 @@
 //! Lines of LDraw texts: how bytes are cut into lines, and what each line says.
+//!
+//! [`lines_of`] cuts bytes into lines, [`split_line`] one line after another without memory, and
+//! [`read_line`] says what a line says. [`split_field`], [`read_colour`] and [`read_number`] read
+//! its fields; [`block_line`] and [`header_line`] look at block lines and `!LDRAW_ORG` lines alone.
+//! The laws say that printed lines are read as what they say.
+//!
+//! The tests stand in `ld_entry`, in `src/tests/lines.rt`.
 #![tactic(auto)]
 
 mod block;
