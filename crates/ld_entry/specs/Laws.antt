@@ -11,13 +11,14 @@ use Rattle.ld_colour.specs.declared.colour.Colour.{Colour}
 use Rattle.ld_colour.specs.declared.colour.Colour.TheVariants.{Code}
 use Rattle.ld_entry.specs.Answers.{answer, answer_by, answer_of, until_end, entries_before, first_fault, left_below, outcome_counts}
 use Rattle.ld_entry.specs.Carrying.{Above, above_of, beneath, carried_entry, carried_outcome, nothing_above, Outcome}
-use Rattle.ld_entry.specs.Expansion.{end_of, Expansion, expansion_of, first_entries, neutral_expansion}
+use Rattle.ld_entry.specs.Expansion.{end_of, expansion_of, first_entries, neutral_expansion}
 use Rattle.ld_entry.specs.Lawful.{IsLawfulEntry, IsLawfulOutcome}
 use Rattle.ld_entry.specs.Learnt.{IsClosed}
 use Rattle.ld_entry.specs.NumberedTexts.{known_texts, NumberedTexts, standing_texts, texts_over}
 use Rattle.ld_entry.specs.Outcomes.{all, all_by_line, concatenation, Context, context_of, Enter, line_outcomes, outcomes_by_line}
 use Rattle.ld_entry.specs.declared.entry.Entry.{Entry}
 use Rattle.ld_entry.specs.declared.entry.Entry.TheVariants.{Drawn, Part}
+use Rattle.ld_entry.specs.declared.entry.Expansion.{Expansion}
 use Rattle.ld_entry.specs.declared.entry.Fault.{Fault}
 use Rattle.ld_entry.specs.declared.entry.Outer.{Outer}
 use Rattle.ld_entry.specs.declared.entry.Source.{Source}
@@ -84,6 +85,8 @@ at_end (Some fault) = Err fault ∷ []
 -- What a cut leaves out does not count.
 pub record CutLaws : Type 0 where
   pub twice : (most : ℕ) (outcomes : List Outcome) → until_end most (until_end most outcomes) ≡ until_end most outcomes
+  -- a cut that leaves more, and then one that leaves less
+  pub longer : (most more : ℕ) (outcomes : List Outcome) → most ≤ more → until_end most (until_end more outcomes) ≡ until_end most outcomes
   pub in_front : (most : ℕ) (outcomes behind : List Outcome) → until_end most (until_end most outcomes ++ behind) ≡ until_end most (outcomes ++ behind)
   pub behind : (most : ℕ) (before outcomes : List Outcome) → until_end most (before ++ until_end most outcomes) ≡ until_end most (before ++ outcomes)
   pub below : (most : ℕ) (above : Above) (outcomes : List Outcome) → until_end most (map (carried_outcome above) (until_end most outcomes)) ≡ until_end most (map (carried_outcome above) outcomes)

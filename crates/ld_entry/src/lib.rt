@@ -9,7 +9,7 @@ mod laws;
 mod tests;
 
 pub use carrying::carry;
-pub use entry::{Entry, Fault, Outer, Source, What};
+pub use entry::{Entry, Expansion, Fault, Outer, Source, What};
 pub use laws::{
     action_law, carry_laws, count_law, cut_laws, ends_laws, lawful_law, line_laws, link_law,
     standing_law, tint_law,
