@@ -1,5 +1,11 @@
 //! What an LDraw text expands to: entries and faults, what a reference makes of an entry, and the
 //! definition of recursive expansion with its laws.
+//!
+//! [`carry`] brings an [`Entry`] through a reference ([`Outer`]). The definition of expansion
+//! stands in `specs/`; the laws are functions whose clauses say what it means. No code here expands
+//! a model: `ld_engine` does.
+//!
+//! The tests stand in `src/tests.rt`; those of the five crates below stand in `src/tests/`.
 #![tactic(auto)]
 
 mod carrying;
