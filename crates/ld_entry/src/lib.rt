@@ -1,5 +1,11 @@
 //! What an LDraw text expands to: entries and faults, what a reference makes of an entry, and the
 //! definition of recursive expansion with its laws.
+//!
+//! `carry` brings an entry through one reference. All other calls are laws of the definition, for the
+//! crates that compute it.
+//!
+//! Its tests stand in `src/tests.rt`, and beside them, in `src/tests/`, those of the crates that it
+//! stands on.
 #![tactic(auto)]
 
 mod carrying;

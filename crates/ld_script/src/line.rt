@@ -1,5 +1,5 @@
 // One line of a script.
-ghost use Rattle.std.specs.Prelude.{◌≡◌, IfOk, None, option_and_then, option_map, if◌then◌else◌};
+ghost use Rattle.std.specs.Prelude.{◌≡◌, ◌≢◌, IfOk, None, OnErr, false, option_and_then, option_map, if◌then◌else◌};
 ghost use Rattle.std.specs.List.{list_any};
 ghost use Rattle.ld_line.specs.Digits.{decimal_number};
 ghost use Rattle.ld_script.specs.Fields.{is_tab};
@@ -45,7 +45,8 @@ fn read_file_command(
     folder: &[u8],
     name: &[u8],
 ) -> Result<Option<Command>, AllocError>
-    ensures { IfOk result (λ command. command ≡ option_and_then (file_command word.now) (file_by folder.now name.now)) }
+    ensures command { IfOk result (λ command. command ≡ option_and_then (file_command word.now) (file_by folder.now name.now)) }
+    ensures memory { OnErr result (file_by folder.now name.now ≢ None) }
 {
     let Some(file) = read_file(alloc, folder, name)? else {
         return Ok(None);
@@ -72,7 +73,8 @@ fn read_number_command(
     name: &[u8],
     number: &[u8],
 ) -> Result<Option<Command>, AllocError>
-    ensures { IfOk result (λ command. command ≡ option_and_then (λ file. number_command word.now file number.now) (file_by folder.now name.now)) }
+    ensures command { IfOk result (λ command. command ≡ option_and_then (λ file. number_command word.now file number.now) (file_by folder.now name.now)) }
+    ensures memory { OnErr result (file_by folder.now name.now ≢ None) }
 {
     let Some(file) = read_file(alloc, folder, name)? else {
         return Ok(None);
@@ -100,7 +102,8 @@ fn read_text_command(
     field: &[u8],
     text: &[u8],
 ) -> Result<Option<Command>, AllocError>
-    ensures { IfOk result (λ command. command ≡ option_and_then (λ file. text_command word.now file field.now text.now) (file_by folder.now name.now)) }
+    ensures command { IfOk result (λ command. command ≡ option_and_then (λ file. text_command word.now file field.now text.now) (file_by folder.now name.now)) }
+    ensures memory { OnErr result (file_by folder.now name.now ≢ None) }
 {
     let Some(file) = read_file(alloc, folder, name)? else {
         return Ok(None);
@@ -116,7 +119,8 @@ fn text_command(
     field: &[u8],
     text: &[u8],
 ) -> Result<Option<Command>, AllocError>
-    ensures { IfOk result (λ command. command ≡ text_command word.now file field.now text.now) }
+    ensures command { IfOk result (λ command. command ≡ text_command word.now file field.now text.now) }
+    ensures memory { OnErr result (text_command word.now file field.now text.now ≢ None) }
 {
     if word == b"set".as_slice() {
         read_set(alloc, file, field, text)
@@ -135,7 +139,8 @@ fn read_set(
     line: &[u8],
     text: &[u8],
 ) -> Result<Option<Command>, AllocError>
-    ensures { IfOk result (λ command. command ≡ option_map (λ line. Command.Edit (Edit.Set file line text.now)) (decimal_number line.now)) }
+    ensures command { IfOk result (λ command. command ≡ option_map (λ line. Command.Edit (Edit.Set file line text.now)) (decimal_number line.now)) }
+    ensures memory { OnErr result (decimal_number line.now ≢ None) }
 {
     let Some(line) = read_number(line) else {
         return Ok(None);
@@ -150,7 +155,8 @@ fn read_insert(
     line: &[u8],
     text: &[u8],
 ) -> Result<Option<Command>, AllocError>
-    ensures { IfOk result (λ command. command ≡ option_map (λ line. Command.Edit (Edit.Insert file line text.now)) (decimal_number line.now)) }
+    ensures command { IfOk result (λ command. command ≡ option_map (λ line. Command.Edit (Edit.Insert file line text.now)) (decimal_number line.now)) }
+    ensures memory { OnErr result (decimal_number line.now ≢ None) }
 {
     let Some(line) = read_number(line) else {
         return Ok(None);
@@ -166,7 +172,8 @@ fn read_move(
     folder: &[u8],
     name: &[u8],
 ) -> Result<Option<Command>, AllocError>
-    ensures { IfOk result (λ command. command ≡ (if list_any is_tab name.now then None else option_map (λ to. Command.Edit (Edit.Move from to)) (file_by folder.now name.now))) }
+    ensures command { IfOk result (λ command. command ≡ (if list_any is_tab name.now then None else option_map (λ to. Command.Edit (Edit.Move from to)) (file_by folder.now name.now))) }
+    ensures memory { OnErr result ((list_any is_tab name.now ≡ false) × (file_by folder.now name.now ≢ None)) }
 {
     if has_tab(name) {
         return Ok(None);
@@ -180,7 +187,8 @@ fn read_move(
 // A file by the word of its folder and by its name; `None` where the word is another, or the name has
 // no normal form.
 fn read_file(alloc: Global, folder: &[u8], name: &[u8]) -> Result<Option<FileId>, AllocError>
-    ensures { IfOk result (λ file. file ≡ file_by folder.now name.now) }
+    ensures file { IfOk result (λ file. file ≡ file_by folder.now name.now) }
+    ensures memory { OnErr result (file_by folder.now name.now ≢ None) }
 {
     let Some(folder) = read_folder(folder) else {
         return Ok(None);
