@@ -2,8 +2,8 @@
 ghost use Rattle.std.specs.Prelude.{◌≡◌, ◌≢◌, IfOk, None, OnErr, false, option_and_then, option_map, if◌then◌else◌};
 ghost use Rattle.std.specs.List.{list_any};
 ghost use Rattle.ld_line.specs.Digits.{decimal_number};
-ghost use Rattle.ld_script.specs.Fields.{is_tab};
-ghost use Rattle.ld_script.specs.Script.{command_of, file_by, file_command, folder_by, main_query, number_command, query_by, text_command};
+ghost use Rattle.ld_script.specs.Fields.{is_tab, tabbed};
+ghost use Rattle.ld_script.specs.Script.{command_of, file_by, file_command, folder_by, main_query, named_file, number_command, query_by, text_command};
 
 use crate::command::{Command, Query, Root};
 use crate::fields::{has_tab, split_tab};
@@ -15,7 +15,8 @@ use std::alloc::{AllocError, Global};
 // The command that a line says; `None` where it says none.
 #[tactic(auto, unfolding(crate::specs::Script::command_of))]
 pub(crate) fn read_command(alloc: Global, line: &[u8]) -> Result<Option<Command>, AllocError>
-    ensures { IfOk result (λ command. command ≡ command_of line.now) }
+    ensures command { IfOk result (λ command. command ≡ command_of line.now) }
+    ensures memory { OnErr result (named_file (tabbed line.now) ≢ None) }
 {
     let Some((word, rest)) = split_tab(line) else {
         return Ok(read_main_query(line));
