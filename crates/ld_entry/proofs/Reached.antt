@@ -328,7 +328,7 @@ module _ (numbers : NumbersAgree) (known : Known) where
         record {
           texts = final;
           reached = is;
-          root = grown-among (id ∷ []) final settled.0 id (has-at (id ∷ []) 0 id refl);
+          has_root = grown-among (id ∷ []) final settled.0 id (has-at (id ∷ []) 0 id refl);
           closed = λ text is_inside. (let at = place-of final text.0 is_inside in settled.1 at.0 text.0 (omega arith) at.1);
         }
 

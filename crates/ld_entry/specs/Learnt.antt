@@ -35,5 +35,5 @@ is_among texts text = list_any (nat_eq text.0) texts
 pub record IsLearnt (known : Known) (root : FileId) (id : ℕ) : Type 0 where
   pub texts : List ℕ
   pub reached : reach known root ≡ Reaches texts
-  pub root : is_among texts (record { 0 = id }) ≡ true
+  pub has_root : is_among texts (record { 0 = id }) ≡ true
   pub closed : IsClosed (is_among texts) known
