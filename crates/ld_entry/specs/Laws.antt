@@ -14,7 +14,7 @@ use Rattle.ld_colour.specs.Colour.{is_lawful, under}
 use Rattle.ld_colour.specs.declared.colour.Colour.{Colour}
 use Rattle.ld_colour.specs.declared.colour.Colour.TheVariants.{Code}
 use Rattle.ld_entry.specs.Agreement.{Agree, AgreeAs, renamed_above, renamed_answer, renamed_outcome}
-use Rattle.ld_entry.specs.Answers.{answer, answer_by, answer_of, until_end, entries_before, first_fault, left_below, outcome_counts}
+use Rattle.ld_entry.specs.Answers.{answer, answer_by, answer_of, until_end, entries_before, first_fault, left_below, outcome_counts, running_sums}
 use Rattle.ld_entry.specs.Carrying.{Above, above_of, beneath, carried_entry, carried_outcome, nothing_above, Outcome}
 use Rattle.ld_entry.specs.Expansion.{end_of, expansion_of, first_entries, neutral_expansion}
 use Rattle.ld_entry.specs.Heights.{found_by, height, IsLow, IsWalk, Refers, tallest}
@@ -131,6 +131,11 @@ pub record CountLaw : Type 0 where
   pub lines : (texts : NumberedTexts) (depth most : ℕ) (root : TextId) (colour : Colour) (entries : List Entry) → answer texts depth most root colour ≡ Ok entries → GiveEntries (texts.lines root) (outcome_counts texts depth root colour)
   -- together they are the entries of the answer
   pub whole : (texts : NumberedTexts) (depth most : ℕ) (root : TextId) (colour : Colour) (entries : List Entry) → answer texts depth most root colour ≡ Ok entries → sum (outcome_counts texts depth root colour) ≡ length entries
+
+-- Where there is an answer, in whatever colour, the expansion of the root counts at its lines what they give together.
+abbrev pub LineEndsLaw : Type 0
+LineEndsLaw =
+    (texts : NumberedTexts) (depth most : ℕ) (root : TextId) (colour : Colour) (entries : List Entry) → answer texts depth most root colour ≡ Ok entries → (neutral_expansion texts depth most [] root).line_ends ≡ running_sums 0 (outcome_counts texts depth root colour)
 
 -- ---- Known and standing texts.
 
