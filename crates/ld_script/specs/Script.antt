@@ -20,7 +20,7 @@ use Rattle.ld_script.specs.declared.command.Query.TheVariants.{Faces, Steps, Par
 -- ---- words
 
 abbrev pub folder_by : List ℕ → Option Folder
-folder_by word = if bytes_eq word (codes "model") then Some Model else if bytes_eq word (codes "parts") then Some Parts else if bytes_eq word (codes "p") then Some P else None
+folder_by word = if bytes_eq word (codes "model") then Some (Model 1) else if bytes_eq word (codes "parts") then Some Parts else if bytes_eq word (codes "p") then Some P else None
 
 abbrev pub query_by : List ℕ → Option Query
 query_by word = if bytes_eq word (codes "faces") then Some Faces else if bytes_eq word (codes "steps") then Some Steps else if bytes_eq word (codes "parts") then Some PartList else None
