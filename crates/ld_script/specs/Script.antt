@@ -54,6 +54,11 @@ command_in (word ∷ folder ∷ name ∷ number ∷ []) = option_and_then (λ fi
 command_in (word ∷ folder ∷ name ∷ field ∷ text ∷ []) = option_and_then (λ file. text_command word file field text) (file_by folder name)
 command_in fields = None
 
+-- the file that a line's fields name, if they name one
+abbrev pub named_file : List (List ℕ) → Option FileId
+named_file (word ∷ folder ∷ name ∷ fields) = file_by folder name
+named_file fields = None
+
 -- ---- scripts
 
 -- the command that a line says, if it says one
