@@ -8,6 +8,8 @@ use Rattle.ld_num.specs.declared.point.Placement.{Placement}
 use Rattle.ld_line.specs.Shown.{GiveEntries}
 use Rattle.ld_line.specs.declared.line.Line.{Line}
 use Rattle.ld_line.specs.declared.line.Line.TheVariants.{Ref}
+use Rattle.ld_texts.specs.Known.{AreDistinct, id_of}
+use Rattle.ld_texts.specs.Reach.{wanted}
 use Rattle.ld_bfc.specs.LineState.{state_before}
 use Rattle.ld_bfc.specs.declared.culling.State.{State}
 use Rattle.ld_colour.specs.Colour.{is_lawful, under}
@@ -19,7 +21,7 @@ use Rattle.ld_entry.specs.Carrying.{Above, above_of, beneath, carried_entry, car
 use Rattle.ld_entry.specs.Expansion.{end_of, expansion_of, first_entries, neutral_expansion}
 use Rattle.ld_entry.specs.Heights.{found_by, height, IsLow, IsWalk, Refers, tallest}
 use Rattle.ld_entry.specs.Lawful.{IsLawfulEntry, IsLawfulOutcome}
-use Rattle.ld_entry.specs.Learnt.{IsClosed}
+use Rattle.ld_entry.specs.Learnt.{IsClosed, IsLearnt}
 use Rattle.ld_entry.specs.NumberedTexts.{known_texts, NumberedTexts, standing_texts, texts_over}
 use Rattle.ld_entry.specs.Outcomes.{all, all_by_line, concatenation, Context, context_of, Enter, found_outcomes, line_outcomes, outcomes_by_line, outer_of, part_outcomes}
 use Rattle.ld_entry.specs.declared.entry.Entry.{Entry}
@@ -138,6 +140,10 @@ LineEndsLaw =
     (texts : NumberedTexts) (depth most : ℕ) (root : TextId) (colour : Colour) (entries : List Entry) → answer texts depth most root colour ≡ Ok entries → (neutral_expansion texts depth most [] root).line_ends ≡ running_sums 0 (outcome_counts texts depth root colour)
 
 -- ---- Known and standing texts.
+
+-- Where nothing is wanted for a root, the texts that it reaches are learnt.
+abbrev pub ReachedLaw : Type 0
+ReachedLaw = (known : Known) (root : FileId) (id : ℕ) → AreDistinct known → id_of known root ≡ Some id → wanted known root ≡ None → IsLearnt known root id
 
 -- Where nothing is wanted, the known texts give what the texts as they stand give, whatever the shelf has.
 pub record StandingLaw : Type 0 where
