@@ -14,6 +14,7 @@ use Rattle.ld_colour.specs.Colour.{colour_of}
 use Rattle.ld_entry.specs.Answers.{answer}
 use Rattle.ld_entry.specs.Carrying.{moved_points}
 use Rattle.ld_entry.specs.Expansion.{neutral_expansion}
+use Rattle.ld_entry.specs.Heights.{height}
 use Rattle.ld_entry.specs.Outcomes.{all_by_line}
 use Rattle.ld_entry.specs.Rows as row
 
@@ -45,6 +46,10 @@ first_of_an_ordinary_model = refl
 pub ends_of_an_ordinary_model : row.EndsOfAnOrdinaryModel
 unfolding values
 ends_of_an_ordinary_model = (refl, refl)
+
+pub heights_of_models : row.HeightsOfModels
+unfolding values height
+heights_of_models = (refl, refl, refl, refl)
 
 pub chain_of64 : row.ChainOf64
 unfolding values

@@ -1,6 +1,11 @@
 pub mod Computed
+pub mod Renaming
 pub mod Agreement
 pub mod Action
+pub mod Found
+pub mod Heights
+pub mod Ways
+pub mod Reuse
 pub mod Lines
 pub mod Links
 pub mod Counts

@@ -1,5 +1,5 @@
 //! Entries below references, and worked models by the definition of recursive expansion.
-ghost use Rattle.ld_entry.specs.Rows.{AbsentRoot, AsManyAsAllowed, CertificationPassed, CertificationRefused, CertificationStopped, ChainOf64, ChainOf65, ClipAndWinding, Colours, CycleFromTheFirst, CycleFromTheSecond, DepthOfOne, DepthOfThree, DepthOfTwo, DirectColours, EarlierFaultFromOutside, EndsOfAnOrdinaryModel, FirstOfAnOrdinaryModel, InvertnextAndMirror, MatrixOfZeros, MirrorAlone, NameWithoutNormalForm, NoFaultFromOutside, NoLineType, NumberOutOfRange, OneEntryAllowed, OneTooMany, OnlyEntryAllowed, ReferenceToItself, ReferenceWithoutFile, RootWithoutLines, RoundingAtEachReference, UnknownRoot};
+ghost use Rattle.ld_entry.specs.Rows.{AbsentRoot, AsManyAsAllowed, CertificationPassed, CertificationRefused, CertificationStopped, ChainOf64, ChainOf65, ClipAndWinding, Colours, CycleFromTheFirst, CycleFromTheSecond, DepthOfOne, DepthOfThree, DepthOfTwo, DirectColours, EarlierFaultFromOutside, EndsOfAnOrdinaryModel, FirstOfAnOrdinaryModel, HeightsOfModels, InvertnextAndMirror, MatrixOfZeros, MirrorAlone, NameWithoutNormalForm, NoFaultFromOutside, NoLineType, NumberOutOfRange, OneEntryAllowed, OneTooMany, OnlyEntryAllowed, ReferenceToItself, ReferenceWithoutFile, RootWithoutLines, RoundingAtEachReference, UnknownRoot};
 
 mod colours;
 mod lines;
@@ -269,6 +269,7 @@ fn points_and_colours()
 fn models()
     ensures first_of_an_ordinary_model { FirstOfAnOrdinaryModel }
     ensures ends_of_an_ordinary_model { EndsOfAnOrdinaryModel }
+    ensures heights_of_models { HeightsOfModels }
     ensures chain_of64 { ChainOf64 }
     ensures chain_of65 { ChainOf65 }
 {}
