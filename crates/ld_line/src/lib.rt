@@ -10,6 +10,7 @@ mod header;
 mod laws;
 mod line;
 mod meta;
+mod moved;
 mod number;
 mod read;
 
@@ -21,4 +22,5 @@ pub use field::split_field;
 pub use header::header_line;
 pub use laws::{colour_law, draw_law, fields_law, lines_law, step_law};
 pub use line::{Angles, BfcWord, BlockLine, Kind, Line, RotWord, Winding};
+pub use moved::moved_reference;
 pub use read::read_line;

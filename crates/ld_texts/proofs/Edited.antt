@@ -12,7 +12,7 @@ use Rattle.ld_names.specs.Finding.{IsFileEquality}
 use Rattle.ld_names.specs.Standing.{Known, Map, Text, known_map, same_file, standing}
 use Rattle.ld_texts.specs.Editing.{AreKnown, edit_change, edited, edited_map, files_in, is_block_text, map_with_texts, misfit, move_change, misses, names, refusal_of, refused_if, text_in, text_of, turned, with_texts, written_by}
 use Rattle.ld_texts.specs.EditLaws.{EditLaws, EditsMaps, LeavesOthers, Weighs, grows}
-use Rattle.ld_texts.specs.Known.{file_at, files_of, id_of, is_part_at, lines_at, weight_of}
+use Rattle.ld_texts.specs.Known.{file_at, files_of, id_of, is_part_at, lines_at, moved_at, weight_of}
 use Rattle.ld_texts.specs.Learning.{Apply, Learn, Ready, change_of, edit_in, known_after}
 use Rattle.ld_texts.specs.declared.change.Change.{Change}
 use Rattle.ld_texts.specs.declared.change.Turned.{Turned}
@@ -135,6 +135,15 @@ module _ (equality : IsFileEquality) where
       let there = (numbers_agree equality).file known other id is in
       part-by known (edited known edit) id other (lines_at known id) there (file-is known edit id ∙ there) refl (lines-is known edit other id apart is)
 
+  moved-by : (known after : Known) (id : ℕ) (file : FileId) (text : Text) → file_at known id ≡ Some file → file_at after id ≡ Some file → lines_at known id ≡ text → lines_at after id ≡ text → moved_at after id ≡ moved_at known id
+  moved-by known after id file None there stays is now = let numbers = numbers_agree equality in numbers.not_moved after id now ∙ sym (numbers.not_moved known id is)
+  moved-by known after id file (Some lines) there stays is now = let numbers = numbers_agree equality in numbers.moved after id file lines stays now ∙ sym (numbers.moved known id file lines there is)
+
+  moved-is : (known : Known) (edit : Edit) (other : FileId) (id : ℕ) → names edit other ≡ false → id_of known other ≡ Some id → moved_at (edited known edit) id ≡ moved_at known id
+  moved-is known edit other id apart is =
+      let there = (numbers_agree equality).file known other id is in
+      moved-by known (edited known edit) id other (lines_at known id) there (file-is known edit id ∙ there) refl (lines-is known edit other id apart is)
+
   keeps : (known : Known) (edit : Edit) → LeavesOthers known edit
   keeps known edit = record {
     files = files-stay known (written_by edit (text_of known));
@@ -146,6 +155,7 @@ module _ (equality : IsFileEquality) where
     others = others-is known edit;
     lines = lines-is known edit;
     part = part-is known edit;
+    moved = moved-is known edit;
   }
 
   -- ---- the map of what is known

@@ -5,7 +5,7 @@ use Rattle.std.specs.List.{list_all}
 use Rattle.ld_names.specs.declared.file.FileId.{FileId}
 use Rattle.ld_names.specs.Standing.{Known, Text, known_map, standing}
 use Rattle.ld_texts.specs.Editing.{AreKnown, edit_change, edited, edited_map, files_in, is_block_text, misfit, names, refusal_of, text_in, text_of}
-use Rattle.ld_texts.specs.Known.{AreDistinct, file_at, files_of, id_of, is_part_at, lines_at, weight_of}
+use Rattle.ld_texts.specs.Known.{AreDistinct, file_at, files_of, id_of, is_part_at, lines_at, moved_at, weight_of}
 use Rattle.ld_texts.specs.declared.edit.Edit.{Edit}
 use Rattle.ld_texts.specs.declared.edit.Edit.TheVariants.{Set, Insert}
 
@@ -20,6 +20,7 @@ pub record LeavesOthers (known : Known) (edit : Edit) : Type 0 where
   pub others : (other : FileId) → names edit other ≡ false → known_map (edited known edit) other ≡ known_map known other
   pub lines : (other : FileId) (id : ℕ) → names edit other ≡ false → id_of known other ≡ Some id → lines_at (edited known edit) id ≡ lines_at known id
   pub part : (other : FileId) (id : ℕ) → names edit other ≡ false → id_of known other ≡ Some id → is_part_at (edited known edit) id ≡ is_part_at known id
+  pub moved : (other : FileId) (id : ℕ) → names edit other ≡ false → id_of known other ≡ Some id → moved_at (edited known edit) id ≡ moved_at known id
 
 -- an edit of known files is the edit of the map of what is known, and of the texts as they stand
 pub record EditsMaps (known : Known) (edit : Edit) : Type 0 where
