@@ -70,6 +70,7 @@ fn first_unknown<'a>(texts: &Texts, edit: &'a Edit) -> Option<&'a FileId>
         Edit::Insert { file, .. } => unless_known(texts, file),
         Edit::Delete { file, .. } => unless_known(texts, file),
         Edit::New { file } => unless_known(texts, file),
+        Edit::Restore { file, .. } => unless_known(texts, file),
         Edit::Drop { file } => unless_known(texts, file),
         Edit::Move { from, to } => match texts.id(from) {
             None => Some(from),

@@ -1,13 +1,13 @@
 -- What an edit leaves and what it changes: over the known files, over what is known of each file, and over the texts as
 -- they stand.
-use Rattle.std.specs.Prelude.{◌≡◌, ◌≤◌, ◌<◌, ◌+◌, ◌-◌, ℕ, Bool, true, false, [], List, length, Some, None, get_or}
+use Rattle.std.specs.Prelude.{◌≡◌, ◌≤◌, ◌<◌, ◌+◌, ◌-◌, ℕ, Bool, true, false, [], List, length, Some, None, IsSome, get_or}
 use Rattle.std.specs.List.{list_all}
 use Rattle.ld_names.specs.declared.file.FileId.{FileId}
 use Rattle.ld_names.specs.Standing.{Known, Text, known_map, standing}
 use Rattle.ld_texts.specs.Editing.{AreKnown, edit_change, edited, edited_map, files_in, is_block_text, misfit, names, refusal_of, text_in, text_of}
-use Rattle.ld_texts.specs.Known.{AreDistinct, file_at, files_of, id_of, is_part_at, lines_at, moved_at, weight_of}
+use Rattle.ld_texts.specs.Known.{AreDistinct, file_at, files_of, id_of, is_part_at, lines_at, moved_at, weight_of, weight_of_lines}
 use Rattle.ld_texts.specs.declared.edit.Edit.{Edit}
-use Rattle.ld_texts.specs.declared.edit.Edit.TheVariants.{Set, Insert}
+use Rattle.ld_texts.specs.declared.edit.Edit.TheVariants.{Set, Insert, Restore}
 
 -- every file keeps its number, and the files that the edit does not name keep their texts
 pub record LeavesOthers (known : Known) (edit : Edit) : Type 0 where
@@ -32,12 +32,14 @@ pub record EditsMaps (known : Known) (edit : Edit) : Type 0 where
 abbrev pub grows : Edit → Bool
 grows (Set file line text) = true
 grows (Insert file line text) = true
+grows (Restore file lines) = true
 grows edit = false
 
--- the weight after an edit of a line; only a line that is set or inserted can pass the limit
+-- the weight after an edit that brings lines, which alone can pass the limit
 pub record Weighs (known : Known) : Type 0 where
   pub set : (file : FileId) (line : ℕ) (text : List ℕ) (lines : List (List ℕ)) → text_of known file ≡ Some lines → line - 1 < length lines → weight_of (edited known (Set file line text)) + (length (get_or lines (line - 1) []) + 32) ≡ weight_of known + (length text + 32)
   pub inserted : (file : FileId) (line : ℕ) (text : List ℕ) (lines : List (List ℕ)) → text_of known file ≡ Some lines → weight_of (edited known (Insert file line text)) ≡ weight_of known + (length text + 32)
+  pub restored : (file : FileId) (lines : List (List ℕ)) → IsSome (id_of known file) → text_of known file ≡ None → weight_of (edited known (Restore file lines)) ≡ weight_of known + weight_of_lines lines
   pub light : (max_weight : ℕ) (edit : Edit) → weight_of known ≤ max_weight → grows edit ≡ false → refusal_of max_weight known edit ≡ misfit (text_of known) edit
 
 abbrev pub EditLaws : Type 0
