@@ -6,6 +6,7 @@ use Rattle.ld_names.specs.Normal.{normal_of}
 use Rattle.ld_names.specs.Standing.{find, folders_of, known_map, same_file, standing}
 use Rattle.ld_line.specs.Colour.{colour_word}
 use Rattle.ld_line.specs.Field.{after_field, fields}
+use Rattle.ld_line.specs.Moved.{moved_line, moved_to, target}
 use Rattle.ld_line.specs.Part.{is_part_text}
 use Rattle.ld_line.specs.Reading.{line_of}
 use Rattle.ld_bfc.specs.LineState.{next}
@@ -20,7 +21,7 @@ use Rattle.ld_entry.specs.Rows as row
 
 -- what an answer computes with
 values : ℕ
-unfolding answer neutral_expansion all_by_line line_of fields after_field colour_word is_part_text dec_of millionths_of numeral_of powers_of normal_of find folders_of known_map same_file standing below next colour_of moved_points is_mirrored moved
+unfolding answer neutral_expansion all_by_line line_of fields after_field colour_word is_part_text moved_line moved_to target dec_of millionths_of numeral_of powers_of normal_of find folders_of known_map same_file standing below next colour_of moved_points is_mirrored moved
 values = 0
 
 pub rounding_at_each_reference : row.RoundingAtEachReference

@@ -11,6 +11,7 @@ pub mod Links
 pub mod Counts
 pub mod Cuts
 pub mod Ends
+pub mod Maps
 pub mod Standing
 pub mod Zeros
 pub mod Lawfulness

@@ -13,7 +13,7 @@ use Rattle.ld_bfc.specs.declared.culling.State.{State}
 use Rattle.ld_colour.specs.Colour.{is_lawful, under}
 use Rattle.ld_colour.specs.declared.colour.Colour.{Colour}
 use Rattle.ld_colour.specs.declared.colour.Colour.TheVariants.{Code}
-use Rattle.ld_entry.specs.Agreement.{Agree, AgreeAs, renamed_above, renamed_answer, renamed_outcome}
+use Rattle.ld_entry.specs.Agreement.{Agree, AgreeAs, MapsAgree, renamed_above, renamed_answer, renamed_outcome}
 use Rattle.ld_entry.specs.Answers.{answer, answer_by, answer_of, until_end, entries_before, first_fault, left_below, outcome_counts}
 use Rattle.ld_entry.specs.Carrying.{Above, above_of, beneath, carried_entry, carried_outcome, nothing_above, Outcome}
 use Rattle.ld_entry.specs.Expansion.{end_of, expansion_of, first_entries, neutral_expansion}
@@ -190,6 +190,10 @@ pub record AgreementLaw : Type 0 where
   pub answers : (inside : TextId → Bool) (texts other : NumberedTexts) → Agree inside texts other → (depth most : ℕ) (root : TextId) (colour : Colour) → inside root ≡ true → answer other depth most root colour ≡ answer texts depth most root colour
   pub expansions : (inside : TextId → Bool) (texts other : NumberedTexts) → Agree inside texts other → (depth most : ℕ) (way : List TextId) (text : TextId) → inside text ≡ true → neutral_expansion other depth most way text ≡ neutral_expansion texts depth most way text
   pub heights : (inside : TextId → Bool) (texts other : NumberedTexts) → Agree inside texts other → (bound : ℕ) (text : TextId) → inside text ≡ true → height bound other text ≡ height bound texts text
+
+-- So do the texts of two maps that say the same of the files inside.
+abbrev pub MapsLaw : Type 0
+MapsLaw = (inside : TextId → Bool) (texts other : Map) (files others : List FileId) → MapsAgree inside texts other files others → Agree inside (texts_over texts files) (texts_over other others)
 
 -- Under other numbers they give the same, with these numbers in it.
 pub record RenamingLaw : Type 0 where

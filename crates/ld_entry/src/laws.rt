@@ -1,4 +1,4 @@
-ghost use Rattle.ld_entry.specs.Laws.{ActionLaw, AgreementLaw, CarryLaws, CountLaw, CutLaws, EndsLaws, FoundLaw, HeightLaws, LawfulLaw, LineLaws, LinkLaw, LowerLaw, RenamingLaw, ReuseLaw, StandingLaw, TintLaw, WalkLaws, WayLaw};
+ghost use Rattle.ld_entry.specs.Laws.{ActionLaw, AgreementLaw, CarryLaws, CountLaw, CutLaws, EndsLaws, FoundLaw, HeightLaws, LawfulLaw, LineLaws, LinkLaw, LowerLaw, MapsLaw, RenamingLaw, ReuseLaw, StandingLaw, TintLaw, WalkLaws, WayLaw};
 
 use ld_bfc::{state_laws, with_laws};
 use ld_colour::{lawful_colours, under_laws};
@@ -114,6 +114,13 @@ pub fn reuse_law()
 pub fn agreement_law()
     ensures { AgreementLaw }
 {}
+
+/// So do the texts of two maps that say the same of the files inside, whatever stands elsewhere.
+pub fn maps_law()
+    ensures { MapsLaw }
+{
+    file_laws();
+}
 
 /// Texts that agree under other numbers give the same, with these numbers in it.
 pub fn renaming_law()
