@@ -9,3 +9,5 @@ pub mod Agreement
 pub mod Lawful
 pub mod Laws
 pub mod Rows
+pub mod KeptRows
+pub mod MovedRows

@@ -1,6 +1,6 @@
 -- Moved texts, which only say where a part moved to, and the file at which such moves end. All of it is this project's
 -- own; `~Moved to` begins the title of such a part in the library.
-use Rattle.std.specs.Prelude.{ℕ, zero, suc, ◌+◌, ◌&&◌, Bool, true, false, List, [], ◌∷◌, ◌++◌, map, take, slice_get, Option, Some, None, option_and_then, unwrap_or, if◌then◌else◌, codes}
+use Rattle.std.specs.Prelude.{ℕ, zero, suc, ◌+◌, Bool, true, false, List, [], ◌∷◌, ◌++◌, map, take, slice_get, Option, Some, None, option_and_then, unwrap_or, if◌then◌else◌, codes}
 use Rattle.std.specs.List.{list_any}
 use Rattle.ld_names.specs.Standing.{Map, Text, Found, Present, Absent, Unknown, find, same_file}
 use Rattle.ld_names.specs.declared.file.FileId.{FileId}
@@ -41,9 +41,13 @@ only numbers = None
 abbrev pub only_reference : List Line → Option ℕ
 only_reference lines = if list_any is_drawn lines then None else only (references_from 1 lines)
 
--- the number of the one reference of a moved text, which is a part text with such a title; None of every other text
+-- the number of the one reference of lines with such a title
+unfoldable pub moved_reference : List (List ℕ) → Option ℕ
+moved_reference lines = if has_moved_title lines then only_reference (map line_of lines) else None
+
+-- the number of the one reference of a moved text, which is a part text; None of every other text
 unfoldable pub moved_line : Folder → List (List ℕ) → Option ℕ
-moved_line folder lines = if is_part_text folder lines && has_moved_title lines then only_reference (map line_of lines) else None
+moved_line folder lines = if is_part_text folder lines then moved_reference lines else None
 
 -- ---- where moves lead
 
