@@ -15,6 +15,7 @@ pub mod Maps
 pub mod LineEnds
 pub mod Reached
 pub mod Standing
+pub mod Leading
 pub mod Zeros
 pub mod Lawfulness
 pub mod Moving

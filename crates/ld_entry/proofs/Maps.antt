@@ -17,7 +17,7 @@ use Rattle.ld_entry.specs.Laws.{MapsLaw}
 use Rattle.ld_entry.specs.Learnt.{FindsInside}
 use Rattle.ld_entry.specs.NumberedTexts.{file_is_part, found_from, is_part_in, lines_of_file, standing_lines, target_from, text_id_of, texts_over}
 
-some-same : {A : Type 0} {a b : A} → Some a ≡ Some b → a ≡ b
+pub some-same : {A : Type 0} {a b : A} → Some a ≡ Some b → a ≡ b
 some-same is = cc
 
 module _ (equality : IsFileEquality) (inside : TextId → Bool) (texts other : Map) (files others : List FileId) (agree : MapsAgree inside texts other files others) where

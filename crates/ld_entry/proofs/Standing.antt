@@ -47,7 +47,7 @@ module _ (finds : FindsExactly) (stays : FindStays) (equality : IsFileEquality) 
       by true is rest = omega arith
       by false is rest = let below = rest is in omega arith
 
-  number_of : (known : Known) (file : FileId) (text : Text) → known_map known file ≡ Some text → (number : TextId) × (text_id_of (known_files known) (Present file) ≡ Some number)
+  pub number_of : (known : Known) (file : FileId) (text : Text) → known_map known file ≡ Some text → (number : TextId) × (text_id_of (known_files known) (Present file) ≡ Some number)
   number_of known file text is =
       let place = position_or_len (same_file file) (known_files known) in
       (record { 0 = place }, ap (λ b. option_map (λ n. let id : TextId = record { 0 = n } in id) (cond b (Some place) None)) (lt-ltb place (length (known_files known)) (placed known file text is)))

@@ -19,7 +19,7 @@ use Rattle.ld_entry.specs.Agreement.{Agree, AgreeAs, MapsAgree, renamed_above, r
 use Rattle.ld_entry.specs.Answers.{answer, answer_by, answer_of, until_end, entries_before, first_fault, left_below, outcome_counts, running_sums}
 use Rattle.ld_entry.specs.Carrying.{Above, above_of, beneath, carried_entry, carried_outcome, nothing_above, Outcome}
 use Rattle.ld_entry.specs.Expansion.{end_of, expansion_of, first_entries, neutral_expansion}
-use Rattle.ld_entry.specs.Heights.{found_by, height, IsLow, IsWalk, Refers, tallest}
+use Rattle.ld_entry.specs.Heights.{found_by, height, IsLow, IsWalk, LeadsBy, Refers, tallest}
 use Rattle.ld_entry.specs.Lawful.{IsLawfulEntry, IsLawfulOutcome}
 use Rattle.ld_entry.specs.Learnt.{IsClosed, IsLearnt}
 use Rattle.ld_entry.specs.NumberedTexts.{known_texts, NumberedTexts, standing_texts, texts_over}
@@ -144,6 +144,10 @@ LineEndsLaw =
 -- Where nothing is wanted for a root, the texts that it reaches are learnt.
 abbrev pub ReachedLaw : Type 0
 ReachedLaw = (known : Known) (root : FileId) (id : ℕ) → AreDistinct known → id_of known root ≡ Some id → wanted known root ≡ None → IsLearnt known root id
+
+-- Among known texts, references lead to the part at which moves end.
+abbrev pub TargetLaw : Type 0
+TargetLaw = (known : Known) (text : TextId) → AreDistinct known → (rest : List TextId) × LeadsBy (known_texts known) rest text ((known_texts known).target text)
 
 -- Where nothing is wanted, the known texts give what the texts as they stand give, whatever the shelf has.
 pub record StandingLaw : Type 0 where
