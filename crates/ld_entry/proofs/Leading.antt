@@ -1,6 +1,6 @@
 -- Among known texts, references lead to the part at which moves end.
 use Rattle.std.proofs.Common.{◌≡◌, ℕ, zero, suc, Bool, true, false, cond, List, [], ◌∷◌, ◌++◌, map, Option, Some, None, option_map, refl, ap, sym, ◌∙◌, subst, arith}
-use Rattle.std.specs.Prelude.{option_and_then, option_to_list, slice_get, unwrap_or}
+use Rattle.std.specs.Prelude.{option_and_then, slice_get, unwrap_or}
 use Rattle.std.specs.List.{Contains, list_any}
 use Rattle.ld_names.specs.Finding.{FindsExactly, FindStays, IsFileEquality}
 use Rattle.ld_names.specs.Standing.{Absent, find, Found, Known, known_map, Present, same_file, Text, Unknown}
@@ -10,14 +10,13 @@ use Rattle.ld_line.specs.Moved.{is_part, last_moved, moved_line, moved_name, mov
 use Rattle.ld_line.specs.Reading.{line_of}
 use Rattle.ld_line.specs.declared.line.Line.{Line}
 use Rattle.ld_line.specs.declared.line.Line.TheVariants.{Ref}
-use Rattle.ld_texts.specs.Known.{AreDistinct}
 use Rattle.ld_texts.specs.Laws.{NumbersAgree}
 use Rattle.ld_entry.proofs.Found.{numbered}
 use Rattle.ld_entry.proofs.Heights.{found_among-more}
 use Rattle.ld_entry.proofs.Maps.{some-same}
 use Rattle.ld_entry.proofs.Reached.{files-at, number-of}
 use Rattle.ld_entry.proofs.Standing.{number_of}
-use Rattle.ld_entry.specs.Heights.{found_among, found_by, LeadsBy, Refers}
+use Rattle.ld_entry.specs.Heights.{found_among, LeadsBy, Refers}
 use Rattle.ld_entry.specs.Laws.{TargetLaw}
 use Rattle.ld_entry.specs.NumberedTexts.{found_from, known_files, known_texts, lines_of_file, NumberedTexts, standing_lines, target_from, text_id_of}
 

@@ -12,7 +12,7 @@ use Rattle.ld_line.specs.Reading.{line_of}
 use Rattle.ld_line.specs.declared.line.Line.{Line}
 use Rattle.ld_line.specs.declared.line.Line.TheVariants.{Ref}
 use Rattle.ld_entry.proofs.Found.{numbered}
-use Rattle.ld_entry.specs.Agreement.{Agree, FindsSame, FindsSameFiles, FoundInside, IsSameText, MapsAgree}
+use Rattle.ld_entry.specs.Agreement.{Agree, FindsSame, FindsSameFiles, FoundInside, MapsAgree}
 use Rattle.ld_entry.specs.Laws.{MapsLaw}
 use Rattle.ld_entry.specs.Learnt.{FindsInside}
 use Rattle.ld_entry.specs.NumberedTexts.{file_is_part, found_from, is_part_in, lines_of_file, standing_lines, target_from, text_id_of, texts_over}

@@ -1,5 +1,5 @@
 -- Where nothing is wanted, the known texts agree with the texts as they stand.
-use Rattle.std.proofs.Common.{◌≡◌, ◌+◌, ◌<◌, ℕ, zero, suc, Bool, true, false, not, cond, List, [], ◌∷◌, length, map, Option, Some, None, option_map, refl, ap, sym, ◌∙◌, subst, arith}
+use Rattle.std.proofs.Common.{◌≡◌, ◌+◌, ◌<◌, ℕ, zero, suc, Bool, true, false, not, cond, List, [], ◌∷◌, length, Some, None, option_map, refl, ap, sym, ◌∙◌, subst, arith}
 use Rattle.std.specs.Prelude.{slice_get, unwrap_or}
 use Rattle.std.specs.List.{position_or_len}
 use Rattle.std.proofs.lemmas.Bool.{lt-ltb}
@@ -8,7 +8,6 @@ use Rattle.ld_names.specs.Standing.{Absent, find, Found, Known, known_map, Map, 
 use Rattle.ld_names.specs.declared.file.FileId.{FileId}
 use Rattle.ld_names.specs.declared.file.Folder.{Folder}
 use Rattle.ld_names.specs.declared.file.TextId.{TextId}
-use Rattle.ld_line.specs.Reading.{line_of}
 use Rattle.ld_line.specs.declared.line.Line.{Line}
 use Rattle.ld_line.specs.declared.line.Line.TheVariants.{Ref}
 use Rattle.ld_entry.proofs.Agreement.{agrees}
@@ -16,7 +15,7 @@ use Rattle.ld_entry.proofs.Maps.{maps-agree}
 use Rattle.ld_entry.specs.Agreement.{Agree, FindsSameFiles, FoundInside, MapsAgree}
 use Rattle.ld_entry.specs.Laws.{StandingLaw}
 use Rattle.ld_entry.specs.Learnt.{FindsInside, IsClosed, WantsNothing}
-use Rattle.ld_entry.specs.NumberedTexts.{file_is_part, found_from, is_part_in, known_files, known_texts, standing_lines, lines_of_file, text_id_of, standing_texts}
+use Rattle.ld_entry.specs.NumberedTexts.{found_from, known_files, known_texts, lines_of_file, text_id_of, standing_texts}
 
 -- a known file stands as it is known
 standing-known : (known : Map) (shelf : FileId → Text) (file : FileId) (text : Text) → known file ≡ Some text → standing known shelf file ≡ Some text

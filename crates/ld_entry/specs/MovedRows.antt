@@ -1,5 +1,5 @@
 -- Worked models of moved parts, from their bytes.
-use Rattle.std.specs.Prelude.{◌≡◌, ℕ, zero, suc, Bool, false, true, pos, List, [], ◌∷◌, ◌++◌, Some, Ok, codes}
+use Rattle.std.specs.Prelude.{◌≡◌, ℕ, zero, suc, Bool, false, true, pos, List, [], ◌∷◌, ◌++◌, Ok, codes}
 use Rattle.ld_names.specs.Standing.{Known, Text}
 use Rattle.ld_names.specs.declared.file.FileId.{FileId}
 use Rattle.ld_names.specs.declared.file.Folder.TheVariants.{Parts}
