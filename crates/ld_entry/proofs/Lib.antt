@@ -11,7 +11,9 @@ pub mod Links
 pub mod Counts
 pub mod Cuts
 pub mod Ends
+pub mod Maps
 pub mod LineEnds
+pub mod Reached
 pub mod Standing
 pub mod Zeros
 pub mod Lawfulness

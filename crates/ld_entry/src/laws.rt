@@ -1,8 +1,9 @@
-ghost use Rattle.ld_entry.specs.Laws.{ActionLaw, AgreementLaw, CarryLaws, CountLaw, CutLaws, EndsLaws, FoundLaw, HeightLaws, LawfulLaw, LineEndsLaw, LineLaws, LinkLaw, LowerLaw, RenamingLaw, ReuseLaw, StandingLaw, TintLaw, WalkLaws, WayLaw};
+ghost use Rattle.ld_entry.specs.Laws.{ActionLaw, AgreementLaw, CarryLaws, CountLaw, CutLaws, EndsLaws, FoundLaw, HeightLaws, LawfulLaw, LineEndsLaw, LineLaws, LinkLaw, LowerLaw, MapsLaw, ReachedLaw, RenamingLaw, ReuseLaw, StandingLaw, TintLaw, WalkLaws, WayLaw};
 
 use ld_bfc::{state_laws, with_laws};
 use ld_colour::{lawful_colours, under_laws};
 use ld_names::{file_laws, lookup_law};
+use ld_texts::number_law;
 
 /// References act one after another, and nothing above a text changes nothing.
 pub fn carry_laws()
@@ -70,6 +71,14 @@ pub fn line_ends_law()
     with_laws();
 }
 
+/// Where nothing is wanted for a root, the texts that it reaches are a set in which nothing is
+/// wanted, with the root in it.
+pub fn reached_law()
+    ensures { ReachedLaw }
+{
+    number_law();
+}
+
 /// Where nothing is wanted, the known texts give what the texts as they stand give.
 pub fn standing_law()
     ensures { StandingLaw }
@@ -123,6 +132,13 @@ pub fn reuse_law()
 pub fn agreement_law()
     ensures { AgreementLaw }
 {}
+
+/// So do the texts of two maps that say the same of the files inside, whatever stands elsewhere.
+pub fn maps_law()
+    ensures { MapsLaw }
+{
+    file_laws();
+}
 
 /// Texts that agree under other numbers give the same, with these numbers in it.
 pub fn renaming_law()
