@@ -1,7 +1,8 @@
 -- Moves by the numbers of texts lead where moves by files do.
-use Rattle.std.proofs.Common.{◌≡◌, ◌==◌, ◌||◌, ◌++◌, ℕ, zero, suc, Bool, true, false, cond, List, [], ◌∷◌, Option, Some, None, refl, ap, sym, subst, ◌∙◌, tests, arith}
+use Rattle.std.proofs.Common.{◌≡◌, ◌==◌, ◌||◌, ◌++◌, ◌+◌, ◌-◌, ◌<◌, ◌≤◌, ℕ, zero, suc, Bool, true, false, cond, List, [], ◌∷◌, Option, Some, None, refl, ap, sym, subst, ◌∙◌, length, tests, arith}
 use Rattle.std.specs.Prelude.{option_and_then, option_map, unwrap_or, ⊤}
 use Rattle.std.specs.List.{list_any}
+use Rattle.std.proofs.lemmas.List.{length-append}
 use Rattle.ld_names.specs.Finding.{IsFileEquality}
 use Rattle.ld_names.specs.Standing.{Absent, find, Found, Known, known_map, Present, same_file, Text as Standing, Unknown}
 use Rattle.ld_names.specs.declared.file.FileId.{FileId}
@@ -13,6 +14,35 @@ use Rattle.ld_texts.specs.Laws.{NumbersAgree}
 use Rattle.ld_entry.specs.NumberedTexts.{found_from, known_files, known_texts, target_from, text_id_of}
 use Rattle.ld_engine.specs.Inside.Moving.{last_of, moved_name_at, name_at, part_behind, part_named, part_only, unless_among}
 use Rattle.ld_engine.proofs.Numbered.{files-at, map-at, none-there, number-of}
+
+-- ---- One move further.
+
+-- what a choice comes to, by what is there and whether it is new
+goes : (stay : TextId) (go : TextId → TextId) (next : TextId) (among : Bool) → among ≡ false → elim (cond among None (Some next)) [ None ↦ stay | Some next ↦ go next ] ≡ go next
+goes stay go next among is = rw is refl
+
+stays : (stay : TextId) (go : TextId → TextId) (next : TextId) (among : Bool) → among ≡ true → elim (cond among None (Some next)) [ None ↦ stay | Some next ↦ go next ] ≡ stay
+stays stay go next among is = rw is refl
+
+goes-on : (texts : List TextId) (stay : TextId) (go : TextId → TextId) (next : TextId) (there : Option TextId) → there ≡ Some next → list_any (λ on. on.0 == next.0) texts ≡ false → elim (option_and_then (unless_among texts) there) [ None ↦ stay | Some next ↦ go next ] ≡ go next
+goes-on texts stay go next there is other = rw is (goes stay go next (list_any (λ on. on.0 == next.0) texts) other)
+
+goes-nowhere : (texts : List TextId) (stay : TextId) (go : TextId → TextId) (there : Option TextId) → there ≡ None → elim (option_and_then (unless_among texts) there) [ None ↦ stay | Some next ↦ go next ] ≡ stay
+goes-nowhere texts stay go there is = rw is refl
+
+goes-twice : (texts : List TextId) (stay : TextId) (go : TextId → TextId) (next : TextId) (there : Option TextId) → there ≡ Some next → list_any (λ on. on.0 == next.0) texts ≡ true → elim (option_and_then (unless_among texts) there) [ None ↦ stay | Some next ↦ go next ] ≡ stay
+goes-twice texts stay go next there is among = rw is (stays stay go next (list_any (λ on. on.0 == next.0) texts) among)
+
+moved-on : (more : ℕ) (known : Known) (before : List TextId) (last next : TextId) → part_behind known last ≡ Some next → list_any (λ on. on.0 == next.0) (before ++ last ∷ []) ≡ false → last_of (suc more) known before last ≡ last_of more known (before ++ last ∷ []) next
+moved-on more known before last next behind other = goes-on (before ++ last ∷ []) last (last_of more known (before ++ last ∷ [])) next (part_behind known last) behind other
+
+moved-nowhere : (more : ℕ) (known : Known) (before : List TextId) (last : TextId) → part_behind known last ≡ None → last_of more known before last ≡ last
+moved-nowhere zero known before last none = refl
+moved-nowhere (suc more) known before last none = goes-nowhere (before ++ last ∷ []) last (last_of more known (before ++ last ∷ [])) (part_behind known last) none
+
+moved-twice : (more : ℕ) (known : Known) (before : List TextId) (last next : TextId) → part_behind known last ≡ Some next → list_any (λ on. on.0 == next.0) (before ++ last ∷ []) ≡ true → last_of more known before last ≡ last
+moved-twice zero known before last next behind among = refl
+moved-twice (suc more) known before last next behind among = goes-twice (before ++ last ∷ []) last (last_of more known (before ++ last ∷ [])) next (part_behind known last) behind among
 
 module _ (numbers : NumbersAgree) (files : IsFileEquality) (known : Known) (distinct : AreDistinct known) where
   -- ---- Texts and their files.
@@ -170,3 +200,30 @@ module _ (numbers : NumbersAgree) (files : IsFileEquality) (known : Known) (dist
           let there : IsAt end (target (known_map known) file) = last-same 63 [] (file ∷ []) text file (at, tt) at in
           let number : text_id_of (known_files known) (Present (target (known_map known) file)) ≡ Some end = number-of known (target (known_map known) file) ∙ ap (option_map (λ n. record { 0 = n })) (numbers.number known (target (known_map known) file) end.0 distinct there) in
           sym (ap (target_from (known_map known) (known_files known) text) (files-at known text.0 ∙ at) ∙ ap (λ t. unwrap_or t text) number)
+
+  -- ---- The moves so far.
+
+  -- they are some of 63, and lead on to where all of them end
+  abbrev pub LeadOn : List TextId → TextId → TextId → Type 0
+  LeadOn before last text = (length before ≤ 63) × (last_of (63 - length before) known before last ≡ last_of 63 known [] text)
+
+  pub begin : (before : List TextId) (text : TextId) → before ≡ [] → LeadOn before text text
+  begin before text none = rw none (omega arith, refl)
+
+  pub end-nowhere : (before : List TextId) (last text : TextId) → LeadOn before last text → part_behind known last ≡ None → last ≡ (known_texts known).target text
+  end-nowhere before last text lead none = sym (moved-nowhere (63 - length before) known before last none) ∙ lead.1 ∙ target-is text
+
+  pub end-twice : (before : List TextId) (last next text : TextId) → LeadOn before last text → part_behind known last ≡ Some next → list_any (λ on. on.0 == next.0) (before ++ last ∷ []) ≡ true → last ≡ (known_texts known).target text
+  end-twice before last next text lead behind among = sym (moved-twice (63 - length before) known before last next behind among) ∙ lead.1 ∙ target-is text
+
+  pub end-full : (before : List TextId) (last text : TextId) → LeadOn before last text → 63 ≤ length before → last ≡ (known_texts known).target text
+  end-full before last text lead full =
+      let none : 63 - length before ≡ 0 = omega arith in
+      ap (λ more. last_of more known before last) (sym none) ∙ lead.1 ∙ target-is text
+
+  pub lead-on : (before : List TextId) (last next text : TextId) → LeadOn before last text → length before < 63 → part_behind known last ≡ Some next → list_any (λ on. on.0 == next.0) (before ++ last ∷ []) ≡ false → LeadOn (before ++ last ∷ []) next text
+  lead-on before last next text lead short behind other =
+      let longer : length (before ++ last ∷ []) ≡ length before + 1 = length-append before (last ∷ []) in
+      let more : 63 - length before ≡ suc (62 - length before) = omega arith in
+      let left : 63 - length (before ++ last ∷ []) ≡ 62 - length before = omega arith in
+      (omega arith, ap (λ m. last_of m known (before ++ last ∷ []) next) left ∙ sym (moved-on (62 - length before) known before last next behind other) ∙ ap (λ m. last_of m known before last) (sym more) ∙ lead.1)
