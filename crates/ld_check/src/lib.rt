@@ -1,8 +1,9 @@
 //! What is wrong with a part: its header, its lines, and the planes and points of what it draws.
 //!
-//! `check` gives the findings on the lines of a part, each with its line and the number of its rule.
+//! [`check`] gives each line and rule that holds there. The rules are defined in `specs/`, by
+//! subject as the files here.
 //!
-//! Its tests stand in `src/tests/findings.rt` of `ld_cmd`.
+//! The tests stand in `ld_cmd`, in `src/tests/findings.rt`.
 #![tactic(auto)]
 
 mod checking;

@@ -1,10 +1,10 @@
 //! The command `ldraw`: answers about LDraw models, read from files and written to standard output.
 //!
-//! `run` answers the words of a command over any shelf and sink; `main` calls it over the disk and
-//! standard output, and ends with the number of its `Status`.
+//! [`run`] answers words over any shelf and any sink, and ends with a [`Status`]; `main` calls it
+//! over the system.
 //!
-//! Its tests stand in `src/tests.rt` and its tables in `src/tests/`, with the tests of the crates below
-//! that have none of their own.
+//! The tests stand in `src/tests.rt` and `src/tests/`, with those of eight other crates.
+//! `src/tests/library.rt` uses the crates as a library.
 #![tactic(auto)]
 
 mod answer;

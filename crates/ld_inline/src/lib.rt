@@ -1,9 +1,9 @@
 //! The text of an LDraw model without references, and what it means.
 //!
-//! `inline` writes the entries and steps of an answer as one text; `answers_law` says that every answer
-//! with its steps may be handed to it.
+//! [`inline`] writes the text of entries and steps. Its clause `means` says what the text expands
+//! to, and [`answers_law`] that it may be asked with every answer.
 //!
-//! Its tests stand in `src/tests.rt`.
+//! The tests stand in `src/tests.rt`.
 #![tactic(auto)]
 
 mod inlining;

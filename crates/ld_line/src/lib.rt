@@ -1,11 +1,12 @@
-//! Lines of LDraw texts: how bytes are cut into lines, what each line says, and how words of printed
-//! lines are written.
+//! Lines of LDraw texts: how bytes are cut into lines, and what each line says.
 //!
-//! `split_line` cuts the next line of a text; `read_line` says what a line says, `block_line` whether it
-//! begins or ends a block, `header_line` whether it is one of a part's header, and `read_colour` what a
-//! colour word writes. `kind_word` and `six_hex` give the words of a printed line.
+//! [`lines_of`] cuts bytes into lines, [`split_line`] one line after another without memory, and
+//! [`read_line`] says what a line says. [`split_field`], [`read_colour`] and [`read_number`] read
+//! its fields; [`block_line`] and [`header_line`] look at block lines and `!LDRAW_ORG` lines alone.
+//! [`kind_word`] and [`six_hex`] give words of printed lines.
+//! The laws say that printed lines are read as what they say.
 //!
-//! Its tests stand in `src/tests/lines.rt` of `ld_entry`.
+//! The tests stand in `ld_entry`, in `src/tests/lines.rt`.
 #![tactic(auto)]
 
 mod block;
@@ -17,6 +18,7 @@ mod header;
 mod laws;
 mod line;
 mod meta;
+mod moved;
 mod number;
 mod printing;
 mod read;
@@ -29,5 +31,6 @@ pub use field::split_field;
 pub use header::header_line;
 pub use laws::{colour_law, draw_law, fields_law, lines_law, step_law};
 pub use line::{Angles, BfcWord, BlockLine, Kind, Line, RotWord, Winding};
+pub use moved::moved_reference;
 pub use printing::{kind_word, six_hex};
 pub use read::read_line;

@@ -1,10 +1,10 @@
-//! Blocks of LDraw files of several models (MPD): a file cut into its blocks, and blocks joined to a
-//! file.
+//! Blocks of LDraw files of several models (MPD): a file cut into its blocks, and blocks joined to
+//! a file.
 //!
-//! `split` gives the blocks of a file, `text_of` the lines of its first text block alone, and `join`
-//! the bytes of a file of blocks.
+//! [`split`] cuts a file, [`text_of`] takes its first text alone, and [`join`] puts blocks
+//! together.
 //!
-//! Its tests stand in `src/tests/blocks.rt` of `ld_cmd`.
+//! The tests stand in `ld_cmd`, in `src/tests/blocks.rt`.
 #![tactic(auto)]
 
 mod block;

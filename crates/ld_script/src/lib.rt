@@ -1,8 +1,8 @@
 //! Scripts: lines of edits and queries, which are answered one after another.
 //!
-//! `read_script` gives the commands of a script, line by line.
+//! [`read_script`] gives the [`Command`] of each line. `ld_cmd` answers them.
 //!
-//! Its tests stand in `src/tests/scripts.rt` of `ld_cmd`.
+//! The tests stand in `ld_cmd`, in `src/tests/scripts.rt`.
 #![tactic(auto)]
 
 mod command;

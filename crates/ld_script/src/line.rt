@@ -205,7 +205,7 @@ fn read_folder(word: &[u8]) -> Option<Folder>
     ensures { result ≡ folder_by word.now }
 {
     if word == b"model".as_slice() {
-        Some(Folder::Model)
+        Some(Folder::Model(1))
     } else if word == b"parts".as_slice() {
         Some(Folder::Parts)
     } else if word == b"p".as_slice() {

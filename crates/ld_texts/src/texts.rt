@@ -1,6 +1,6 @@
 ghost use Rattle.std.specs.Prelude.{◌≡◌, ◌<◌, ◌≤◌, ◌^◌, [], IfOk, IfSome, OnOk, Some, None, length, option_map, true};
 ghost use Rattle.std.specs.Option.{is_some, option_copied};
-ghost use Rattle.ld_texts.specs.Known.{AreDistinct, file_at, id_of, is_part_at, line_at, lines_at, weight_of};
+ghost use Rattle.ld_texts.specs.Known.{AreDistinct, file_at, id_of, is_part_at, line_at, lines_at, moved_at, weight_of};
 ghost use Rattle.ld_texts.specs.Learning.{CanCommit, KeepsTexts, Learn, LearnsAt, GivesUnless, change_of, has_place, known_after, limit_passed, weight_passed};
 ghost use Rattle.ld_names.specs.declared.file.FileId.{FileId};
 
@@ -8,7 +8,7 @@ use crate::change::{Change, LearnError, Over, Turned};
 use crate::ids::Ids;
 use crate::ready::{Prepared, Ready};
 use crate::text::{KnownText, weigh, weigh_text};
-use ld_names::{FileId, Folder, Lines, Name, TextId, file_laws};
+use ld_names::{Bytes, FileId, Folder, Lines, Name, TextId, file_laws};
 use std::alloc::{AllocError, Global};
 use std::collections::BTreeMap;
 use std::marker::Model;
@@ -19,7 +19,7 @@ use std::marker::Model;
 pub struct Texts {
     pub(crate) alloc: Global,
     pub(crate) files: Vec<(FileId, Option<KnownText>)>,
-    // By name; a name has its place here before its file is learnt. Ordered, since whoever writes
+    // By name; there is room here for a file's number before it is learnt. Ordered, since whoever writes
     // the files picks their names.
     pub(crate) ids: BTreeMap<Name, Ids>,
     pub(crate) max_files: u32,
@@ -31,12 +31,12 @@ impl Model for Texts {
     ghost use Rattle.ld_texts.specs.Learning.{Texts};
     ghost use Rattle.std.specs.Prelude.{◌-◌, length};
     ghost use Rattle.std.specs.Vec.{vec_capacity};
-    ghost use Rattle.ld_texts.specs.Inside.Found.{IsIndex, names_of};
+    ghost use Rattle.ld_texts.specs.Inside.Found.{IsIndex, places_of};
     ghost use Rattle.ld_texts.specs.Inside.Kept.{IsWithin};
 
     ghost Value = { Texts };
 
-    ghost view = { λ texts. record { known = texts.files.items; max_files = texts.max_files; max_weight = texts.max_weight; room = vec_capacity texts.files - length texts.files.items; places = names_of texts.ids.entries } };
+    ghost view = { λ texts. record { known = texts.files.items; max_files = texts.max_files; max_weight = texts.max_weight; room = vec_capacity texts.files - length texts.files.items; places = places_of texts.ids.entries } };
 
     ghost invariant = { λ texts. IsWithin texts.files.items texts.weight texts.max_files texts.max_weight × IsIndex texts.files.items texts.ids.entries };
 }
@@ -107,6 +107,13 @@ impl Texts {
         self.text(id)?.line(line)
     }
 
+    /// The lines of a present file.
+    pub fn lines(&self, id: TextId) -> Option<&[Bytes]>
+        ensures { option_copied result ≡ lines_at self.now.known id.0 }
+    {
+        Some(self.text(id)?.lines())
+    }
+
     /// Whether the file is present and its text is a part text: it lies in the library, or its first
     /// `!LDRAW_ORG` line names the type of a part (Official Library Header Specification).
     #[tactic(auto, unfolding(crate::specs::Known::is_part_at))]
@@ -117,6 +124,17 @@ impl Texts {
             Some((file, Some(text))) => text.is_part(file.folder),
             _ => false,
         }
+    }
+
+    /// The number of the one reference of a present file whose text is a moved text, which only says
+    /// where a part moved to: a part text whose first line begins with `0 ~Moved to`, with no other
+    /// reference and no line that draws. `None` for every other file.
+    pub fn moved(&self, id: TextId) -> Option<u32>
+        ensures { result ≡ moved_at self.now.known id.0 }
+    {
+        let file = self.file(id)?;
+        let text = self.text(id)?;
+        text.moved_line(file.folder)
     }
 
     /// How many files are known.
@@ -174,15 +192,16 @@ impl Texts {
         Ok(Some(KnownText::new(folder, lines, weight)))
     }
 
-    // Gives the name a place for the numbers of its files.
+    // Gives the name a place for the number of one more file.
     fn give_place(&mut self, name: &Name) -> Result<(), AllocError>
         ensures place { OnOk result (has_place self.new name.now ≡ true) }
         ensures same { KeepsTexts self.old self.new }
     {
-        if self.ids.contains_key(name) {
-            return Ok(());
+        if let Some(ids) = self.ids.get_mut(name) {
+            return ids.reserve();
         }
-        self.ids.insert(name.copy(self.alloc)?, Ids::none())?;
+        self.ids
+            .insert(name.copy(self.alloc)?, Ids::new(self.alloc)?)?;
         Ok(())
     }
 
@@ -213,7 +232,7 @@ impl Texts {
         let id = self.known();
         self.weight += weigh_text(&text);
         let ids = self.ids.get_mut(&file.name).unwrap();
-        *ids = ids.with(file.folder, id);
+        ids.add(file.folder, id);
         self.files.push((file, text)).unwrap();
         Change {
             first: (TextId(id), Turned::Learnt),

@@ -1,10 +1,10 @@
 //! The words of the command line: what they ask for, by this project's own grammar, with the values
 //! that `clap` reads.
 //!
-//! `is_command` tests whether words are in the grammar, and `read_request` gives what such words ask
-//! for. `USAGE` is written for all others.
+//! [`is_command`] tests words, and [`read_request`] gives the [`Request`] of words that are in the
+//! grammar.
 //!
-//! Its tests stand in `src/tests/requests.rt` of `ld_cmd`.
+//! The tests stand in `ld_cmd`, in `src/tests/requests.rt`.
 #![tactic(auto)]
 
 mod grammar;
