@@ -1,5 +1,5 @@
 //! Worked files of several blocks.
-ghost use Rattle.std.specs.Prelude.{◌≡◌, [], ◌∷◌, ◌++◌, Err, codes, false, true};
+ghost use Rattle.std.specs.Prelude.{◌≡◌, [], ◌∷◌, ◌++◌, Err, Ok, codes, false, true};
 ghost use Rattle.ld_mpd.specs.Blocks.{block, blocks_of, text_of};
 ghost use Rattle.ld_mpd.specs.Joining.{join_of};
 ghost use Rattle.ld_mpd.specs.declared.joining.JoinError.TheVariants.{BadBlock, NoText};
@@ -244,6 +244,8 @@ fn blocks_by_definition()
     ensures outside { blocks_of (codes "own") (codes "a" ++ 10 ∷ codes "0 FILE X" ++ 10 ∷ codes "b" ++ 10 ∷ codes "0 FILE x" ++ 10 ∷ codes "c") ≡ block false (codes "x") (codes "b" ∷ []) ∷ [] }
     ensures no_file { blocks_of (codes "own") (codes "a" ++ 10 ∷ codes "0 !DATA" ++ 10 ∷ codes "b") ≡ block false (codes "own") (codes "a" ∷ []) ∷ block true (codes "own") (codes "b" ∷ []) ∷ [] }
     ensures text { text_of (codes "own") (codes "0 !DATA x" ++ 10 ∷ codes "b" ++ 10 ∷ codes "0 FILE x" ++ 10 ∷ codes "c") ≡ codes "c" ∷ [] }
+    ensures joined { join_of (block false (codes "my car.ldr") (codes "2 24 0 0 0 1 0 0" ∷ []) ∷ block false (codes "a.ldr") [] ∷ []) ≡ Ok (codes "0 FILE my car.ldr" ++ 13 ∷ 10 ∷ codes "2 24 0 0 0 1 0 0" ++ 13 ∷ 10 ∷ codes "0 FILE a.ldr" ++ 13 ∷ 10 ∷ []) }
+    ensures later { join_of (block false (codes "my car.ldr") (codes "2 24 0 0 0 1 0 0" ∷ []) ∷ block false (codes "a.ldr") [] ∷ block false (codes "a.ldr") [] ∷ []) ≡ Err (BadBlock 3) }
     ensures no_text { join_of [] ≡ Err NoText }
     ensures block_line { join_of (block false (codes "x") (codes "0 NOFILE" ∷ []) ∷ []) ≡ Err (BadBlock 1) }
 {}
