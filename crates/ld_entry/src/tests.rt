@@ -4,6 +4,7 @@ ghost use Rattle.ld_entry.specs.Rows.{AbsentRoot, AsManyAsAllowed, Certification
 
 mod colours;
 mod lines;
+mod moved;
 mod names;
 mod numbers;
 mod states;
