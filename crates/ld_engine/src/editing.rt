@@ -97,6 +97,7 @@ impl Workspace {
         ensures stands { IfSome (S.files shelf.old) (λ files.
             EditStands (text_on files) edit.now self.old.texts.known self.new.texts.known result) }
         ensures shelf { IsOnlyRead (S.files shelf.old) (S.files shelf.new) (S.faults shelf.old) (S.faults shelf.new) (result ≡ Err EditError.ReadFault) }
+        ensures unread { AreKnown self.old.texts.known (files_in edit.now) → shelf.new ≡ shelf.old }
     {
         number_law();
         lookup_law();
@@ -118,6 +119,7 @@ impl Workspace {
         ensures told { IfSome (S.files shelf.old) (λ files.
             ToldFor self.old.limits files (wanted_by edit.now) self.old.texts.known self.new.texts.known result) }
         ensures shelf { IsOnlyRead (S.files shelf.old) (S.files shelf.new) (S.faults shelf.old) (S.faults shelf.new) (result ≡ Err LearnStop.ReadFault) }
+        ensures unread { wanted_by edit.now self.old.texts.known ≡ None → shelf.new ≡ shelf.old }
     {
         while let Some(file) = first_unknown(self.texts(), edit) {
             if let Err(stop) = self.learn_copy(shelf, file) {

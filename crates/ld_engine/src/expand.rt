@@ -1,13 +1,13 @@
 // Recursive expansion of the known texts: each text's entries are made below nothing, and carried
 // through the reference that enters it.
-ghost use Rattle.std.specs.Prelude.{◌≡◌, ◌==◌, ◌∷◌, [], ◌++◌, ℕ, IfOk, List, None, OnOk};
+ghost use Rattle.std.specs.Prelude.{◌≡◌, ◌≤◌, ◌+◌, ◌==◌, ◌∷◌, [], ◌++◌, ℕ, IfOk, List, None, OnOk, length};
 ghost use Rattle.std.specs.List.{list_any};
 ghost use Rattle.ld_names.specs.declared.file.TextId.{TextId};
 ghost use Rattle.ld_colour.specs.Colour.{colour_of as colour_of_word};
 ghost use Rattle.ld_entry.specs.Carrying.{above_of};
 ghost use Rattle.ld_entry.specs.NumberedTexts.{known_texts};
 ghost use Rattle.ld_entry.specs.Outcomes.{all, found_outcomes, line_outcomes, outer_of, part_outcomes};
-ghost use Rattle.ld_engine.specs.Gathering.{Extends, Gathers, alone, enter_with};
+ghost use Rattle.ld_engine.specs.Gathering.{Extends, Gathers, KeepsWithin, alone, enter_with};
 ghost use Rattle.ld_engine.specs.Inside.Meeting.{AreMets, met_outcomes};
 
 use crate::carrying::carry_from;
@@ -66,6 +66,7 @@ fn push_part(
     entries: &mut Vec<Entry>,
 ) -> Result<(), AllocError>
     ensures extends { OnOk result (Extends entries.old.items entries.new.items) }
+    ensures within { OnOk result (length entries.new.items ≤ length entries.old.items + 1) }
     ensures gathers { OnOk result ((way : List TextId) (most word : ℕ) → outer.now.colour ≡ colour_of_word word →
         Gathers most entries.old.items entries.new.items None
         (part_outcomes (alone (known_texts texts.now.known) way outer.now.source.text) outer.now.source word file)) }
@@ -98,6 +99,7 @@ fn enter_file(
     ensures read { OnOk result (AreMets (known_texts texts.now.known) reading.new.lists.items) }
     ensures way { OnOk result (way.new.items ≡ way.old.items) }
     ensures extends { OnOk result (Extends entries.old.items entries.new.items) }
+    ensures within { OnOk result (KeepsWithin most entries.old.items entries.new.items) }
     ensures gathers { IfOk result (λ end. Gathers most entries.old.items entries.new.items end
         (found_outcomes (enter_with left) (alone (known_texts texts.now.known) way.old.items reference.now.source.text) reference.now.state reference.now.source reference.now.colour reference.now.placement (Some file))) }
 {
@@ -140,6 +142,7 @@ fn expand_met(
     ensures read { OnOk result (AreMets (known_texts texts.now.known) reading.new.lists.items) }
     ensures way { OnOk result (way.new.items ≡ way.old.items) }
     ensures extends { OnOk result (Extends entries.old.items entries.new.items) }
+    ensures within { OnOk result (KeepsWithin most entries.old.items entries.new.items) }
     ensures gathers { IfOk result (λ end. Gathers most entries.old.items entries.new.items end
         (met_outcomes (enter_with left) (known_texts texts.now.known) way.old.items met)) }
 {
@@ -173,6 +176,7 @@ fn expand_text(
     ensures read { OnOk result (AreMets (known_texts texts.now.known) reading.new.lists.items) }
     ensures way { OnOk result (way.new.items ≡ way.old.items) }
     ensures extends { OnOk result (Extends entries.old.items entries.new.items) }
+    ensures within { OnOk result (KeepsWithin most entries.old.items entries.new.items) }
     ensures gathers { IfOk result (λ end. Gathers most entries.old.items entries.new.items end
         (all left (alone (known_texts texts.now.known) way.old.items text))) }
 {
@@ -209,6 +213,7 @@ pub(crate) fn expand_line(
     ensures read { OnOk result (AreMets (known_texts texts.now.known) reading.new.lists.items) }
     ensures way { OnOk result (way.new.items ≡ way.old.items) }
     ensures extends { OnOk result (Extends entries.old.items entries.new.items) }
+    ensures within { OnOk result (KeepsWithin most entries.old.items entries.new.items) }
     ensures gathers { IfOk result (λ end. Gathers most entries.old.items entries.new.items end
         (line_outcomes (enter_with left) (alone (known_texts texts.now.known) way.old.items source.text) state source line)) }
 {

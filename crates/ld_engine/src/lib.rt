@@ -30,7 +30,7 @@ mod workspace;
 
 pub use asking::{Answer, AnswerError};
 pub use editing::EditError;
-pub use laws::{first_law, learnt_law, main_law, root_law, steps_law};
+pub use laws::{first_law, learnt_law, main_law, missing_law, root_law, steps_law};
 pub use limits::{Limits, OpenError};
 pub use loading::LoadError;
 pub use workspace::Workspace;

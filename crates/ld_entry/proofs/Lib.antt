@@ -11,6 +11,8 @@ pub mod Links
 pub mod Counts
 pub mod Cuts
 pub mod Ends
+pub mod LineEnds
+pub mod Reached
 pub mod Standing
 pub mod Zeros
 pub mod Lawfulness

@@ -8,18 +8,20 @@ use Rattle.ld_num.specs.declared.point.Placement.{Placement}
 use Rattle.ld_line.specs.Shown.{GiveEntries}
 use Rattle.ld_line.specs.declared.line.Line.{Line}
 use Rattle.ld_line.specs.declared.line.Line.TheVariants.{Ref}
+use Rattle.ld_texts.specs.Known.{AreDistinct, id_of}
+use Rattle.ld_texts.specs.Reach.{wanted}
 use Rattle.ld_bfc.specs.LineState.{state_before}
 use Rattle.ld_bfc.specs.declared.culling.State.{State}
 use Rattle.ld_colour.specs.Colour.{is_lawful, under}
 use Rattle.ld_colour.specs.declared.colour.Colour.{Colour}
 use Rattle.ld_colour.specs.declared.colour.Colour.TheVariants.{Code}
 use Rattle.ld_entry.specs.Agreement.{Agree, AgreeAs, renamed_above, renamed_answer, renamed_outcome}
-use Rattle.ld_entry.specs.Answers.{answer, answer_by, answer_of, until_end, entries_before, first_fault, left_below, outcome_counts}
+use Rattle.ld_entry.specs.Answers.{answer, answer_by, answer_of, until_end, entries_before, first_fault, left_below, outcome_counts, running_sums}
 use Rattle.ld_entry.specs.Carrying.{Above, above_of, beneath, carried_entry, carried_outcome, nothing_above, Outcome}
 use Rattle.ld_entry.specs.Expansion.{end_of, expansion_of, first_entries, neutral_expansion}
 use Rattle.ld_entry.specs.Heights.{found_by, height, IsLow, IsWalk, Refers, tallest}
 use Rattle.ld_entry.specs.Lawful.{IsLawfulEntry, IsLawfulOutcome}
-use Rattle.ld_entry.specs.Learnt.{IsClosed}
+use Rattle.ld_entry.specs.Learnt.{IsClosed, IsLearnt}
 use Rattle.ld_entry.specs.NumberedTexts.{known_texts, NumberedTexts, standing_texts, texts_over}
 use Rattle.ld_entry.specs.Outcomes.{all, all_by_line, concatenation, Context, context_of, Enter, found_outcomes, line_outcomes, outcomes_by_line, outer_of, part_outcomes}
 use Rattle.ld_entry.specs.declared.entry.Entry.{Entry}
@@ -132,7 +134,16 @@ pub record CountLaw : Type 0 where
   -- together they are the entries of the answer
   pub whole : (texts : NumberedTexts) (depth most : ℕ) (root : TextId) (colour : Colour) (entries : List Entry) → answer texts depth most root colour ≡ Ok entries → sum (outcome_counts texts depth root colour) ≡ length entries
 
+-- Where there is an answer, in whatever colour, the expansion of the root counts at its lines what they give together.
+abbrev pub LineEndsLaw : Type 0
+LineEndsLaw =
+    (texts : NumberedTexts) (depth most : ℕ) (root : TextId) (colour : Colour) (entries : List Entry) → answer texts depth most root colour ≡ Ok entries → (neutral_expansion texts depth most [] root).line_ends ≡ running_sums 0 (outcome_counts texts depth root colour)
+
 -- ---- Known and standing texts.
+
+-- Where nothing is wanted for a root, the texts that it reaches are learnt.
+abbrev pub ReachedLaw : Type 0
+ReachedLaw = (known : Known) (root : FileId) (id : ℕ) → AreDistinct known → id_of known root ≡ Some id → wanted known root ≡ None → IsLearnt known root id
 
 -- Where nothing is wanted, the known texts give what the texts as they stand give, whatever the shelf has.
 pub record StandingLaw : Type 0 where

@@ -9,3 +9,4 @@ pub mod Agreement
 pub mod Lawful
 pub mod Laws
 pub mod Rows
+pub mod KeptRows

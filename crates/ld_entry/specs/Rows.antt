@@ -13,7 +13,6 @@ use Rattle.ld_colour.specs.declared.colour.Colour.{Colour}
 use Rattle.ld_colour.specs.declared.colour.Colour.TheVariants.{Code, Direct, Edge, EdgeOf, Main}
 use Rattle.ld_entry.specs.Answers.{answer}
 use Rattle.ld_entry.specs.Expansion.{neutral_expansion}
-use Rattle.ld_entry.specs.Heights.{height}
 use Rattle.ld_entry.specs.NumberedTexts.{NumberedTexts, standing_texts}
 use Rattle.ld_entry.specs.declared.entry.Entry.{Entry}
 use Rattle.ld_entry.specs.declared.entry.Entry.TheVariants.{Drawn, Part}
@@ -29,7 +28,7 @@ lies_in folder name lines = (record { folder = folder; name = name }, Some lines
 
 -- a text beside the model
 abbrev pub block : List ℕ → List (List ℕ) → FileId × Text
-block name lines = lies_in Model name lines
+block name lines = lies_in (Model 1) name lines
 
 -- a reference: its colour and its offset, the matrix that changes nothing, and the name of its file
 abbrev pub ref : List ℕ → List ℕ → List ℕ
@@ -167,14 +166,6 @@ EndsOfAnOrdinaryModel =
 abbrev pub cycle_texts : Known
 cycle_texts = block (codes "a.ldr") (ref (codes "16 0 0 0") (codes "b.ldr") ∷ []) ∷ block (codes "b.ldr") (codes "3 16 0 0 0 1 0 0 0 1 0" ∷ ref (codes "16 0 0 0") (codes "a.ldr") ∷ []) ∷ []
 
-abbrev pub height_in : Known → ℕ → ℕ
-height_in known text = height 33 (texts_of known) (record { 0 = text })
-
--- the model, the primitive, and a file that is absent; and on a cycle
-abbrev pub HeightsOfModels : Type 0
-HeightsOfModels =
-    (height_in ordinary_model 0 ≡ 4) × (height_in ordinary_model 4 ≡ 1) × (height_in ordinary_model 5 ≡ 1) × (height_in cycle_texts 1 ≡ 33)
-
 abbrev pub CycleFromTheFirst : Type 0
 CycleFromTheFirst = answer_in cycle_texts 0 ≡ faulty Cycle 1 2
 
@@ -229,7 +220,7 @@ abbrev pub RootWithoutLines : Type 0
 RootWithoutLines = answer_in three_deep 2 ≡ Ok []
 
 abbrev pub AbsentRoot : Type 0
-AbsentRoot = answer_in ((record { folder = Model; name = codes "m.ldr" }, None) ∷ []) 0 ≡ Ok []
+AbsentRoot = answer_in ((record { folder = Model 1; name = codes "m.ldr" }, None) ∷ []) 0 ≡ Ok []
 
 abbrev pub UnknownRoot : Type 0
 UnknownRoot = answer_in [] 7 ≡ Ok []

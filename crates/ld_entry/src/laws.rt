@@ -1,8 +1,9 @@
-ghost use Rattle.ld_entry.specs.Laws.{ActionLaw, AgreementLaw, CarryLaws, CountLaw, CutLaws, EndsLaws, FoundLaw, HeightLaws, LawfulLaw, LineLaws, LinkLaw, LowerLaw, RenamingLaw, ReuseLaw, StandingLaw, TintLaw, WalkLaws, WayLaw};
+ghost use Rattle.ld_entry.specs.Laws.{ActionLaw, AgreementLaw, CarryLaws, CountLaw, CutLaws, EndsLaws, FoundLaw, HeightLaws, LawfulLaw, LineEndsLaw, LineLaws, LinkLaw, LowerLaw, ReachedLaw, RenamingLaw, ReuseLaw, StandingLaw, TintLaw, WalkLaws, WayLaw};
 
 use ld_bfc::{state_laws, with_laws};
 use ld_colour::{lawful_colours, under_laws};
 use ld_names::{file_laws, lookup_law};
+use ld_texts::number_law;
 
 /// References act one after another, and nothing above a text changes nothing.
 pub fn carry_laws()
@@ -60,6 +61,23 @@ pub fn line_laws()
 pub fn count_law()
     ensures { CountLaw }
 {}
+
+/// Where there is an answer, the ends of the lines in the root's expansion are the running sums of
+/// what the lines give.
+pub fn line_ends_law()
+    ensures { LineEndsLaw }
+{
+    under_laws();
+    with_laws();
+}
+
+/// Where nothing is wanted for a root, the texts that it reaches are a set in which nothing is
+/// wanted, with the root in it.
+pub fn reached_law()
+    ensures { ReachedLaw }
+{
+    number_law();
+}
 
 /// Where nothing is wanted, the known texts give what the texts as they stand give.
 pub fn standing_law()
