@@ -18,7 +18,7 @@ use Rattle.ld_texts.specs.Known.{AreDistinct, file_at, id_of, lines_at}
 use Rattle.ld_texts.specs.Laws.{NumbersAgree}
 use Rattle.ld_texts.specs.Reach.{file_reaches, going_on, line_reaches, lines_in, lines_reach, reach, Reached, reached_by, Reaches, texts_reach, wanted_in, Wants, with_found, with_reached}
 use Rattle.ld_entry.specs.Laws.{ReachedLaw}
-use Rattle.ld_entry.specs.Learnt.{FindsInside, is_among, IsClosed, IsLearnt, WantsNothing}
+use Rattle.ld_entry.specs.Learnt.{FindsInside, is_among, IsLearnt, WantsNothing}
 use Rattle.ld_entry.specs.NumberedTexts.{found_from, known_files, known_texts, lines_of_file, text_id_of}
 use Rattle.ld_entry.specs.NumberedTexts as numbered
 

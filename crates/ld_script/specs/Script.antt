@@ -1,5 +1,5 @@
 -- Scripts: the commands that their lines say. They are this project's own; a colour word is File Format 1.0.2's.
-use Rattle.std.specs.Prelude.{◌==◌, ◌+◌, ℕ, Bool, true, false, List, [], ◌∷◌, ◌++◌, Option, Some, None, option_and_then, option_map, if◌then◌else◌, bytes_eq, codes}
+use Rattle.std.specs.Prelude.{◌==◌, ◌+◌, ℕ, Bool, true, List, [], ◌∷◌, ◌++◌, Option, Some, None, option_and_then, option_map, if◌then◌else◌, bytes_eq, codes}
 use Rattle.std.specs.List.{list_any}
 use Rattle.std.specs.Result.{result_ok}
 use Rattle.ld_line.specs.Colour.{colour_word}

@@ -1,4 +1,4 @@
-ghost use Rattle.std.specs.Prelude.{◌≡◌, ◌<◌, ◌≤◌, ◌^◌, [], IfOk, IfSome, OnOk, Some, None, length, option_map, true};
+ghost use Rattle.std.specs.Prelude.{◌≡◌, ◌<◌, ◌≤◌, ◌^◌, [], IfOk, IfSome, IsSome, OnOk, Some, None, length, option_map, true};
 ghost use Rattle.std.specs.Option.{is_some, option_copied};
 ghost use Rattle.ld_texts.specs.Known.{AreDistinct, file_at, id_of, is_part_at, line_at, lines_at, moved_at, weight_of};
 ghost use Rattle.ld_texts.specs.Learning.{CanCommit, KeepsTexts, Learn, LearnsAt, GivesUnless, change_of, has_place, known_after, limit_passed, weight_passed};
@@ -154,12 +154,14 @@ impl Texts {
         self.weight
     }
 
-    /// Takes the memory that is needed to learn a file with its lines, or as absent.
+    /// Takes the memory that is needed to learn a file with its lines, or as absent. Where a limit would
+    /// be passed, all stays as it was.
     pub fn prepare_file(&mut self, file: &FileId, lines: Option<Lines>) -> Result<Ready, LearnError>
         requires { id_of self.old.known file.now ≡ None }
         ensures result { GivesUnless (limit_passed self.old.max_files self.old.max_weight self.old.known lines) (Learn file.now lines) result }
         ensures ready { IfOk result (CanCommit self.new) }
         ensures same { KeepsTexts self.old self.new }
+        ensures refused { IsSome (limit_passed self.old.max_files self.old.max_weight self.old.known lines) → self.new ≡ self.old }
     {
         if self.known() == self.max_files {
             return Err(LearnError::Full(Over::Files(self.max_files)));

@@ -129,8 +129,16 @@ fn files(rt: HostRuntime) -> Result<(), NameError> {
 
 // The folders in which a file is looked for, and how many of them there are.
 const ORDERS: [(Folder, u8, [Folder; 3]); 4] = [
-    (Folder::Model(1), 3, [Folder::Model(1), Folder::Parts, Folder::P]),
-    (Folder::Model(16), 3, [Folder::Model(16), Folder::Parts, Folder::P]),
+    (
+        Folder::Model(1),
+        3,
+        [Folder::Model(1), Folder::Parts, Folder::P],
+    ),
+    (
+        Folder::Model(16),
+        3,
+        [Folder::Model(16), Folder::Parts, Folder::P],
+    ),
     (Folder::Parts, 2, [Folder::Parts, Folder::P, Folder::P]),
     (Folder::P, 2, [Folder::Parts, Folder::P, Folder::P]),
 ];
