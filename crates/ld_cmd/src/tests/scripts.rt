@@ -160,6 +160,8 @@ fn edit_shown(alloc: Global, edit: &Edit) -> Result<String, AllocError> {
         }
         Edit::Delete { file, line } => line_shown(alloc, "Delete", file, *line),
         Edit::New { file } => named_shown(alloc, "New", file),
+        // No word of a script makes one.
+        Edit::Restore { file, .. } => named_shown(alloc, "Restore", file),
         Edit::Drop { file } => named_shown(alloc, "Drop", file),
         Edit::Move { from, to } => move_shown(alloc, from, to),
     }
