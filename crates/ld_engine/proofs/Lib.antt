@@ -18,3 +18,4 @@ pub mod Missing
 pub mod Standing
 pub mod Edits
 pub mod Types
+pub mod Moves

@@ -12,6 +12,7 @@ ghost use Rattle.ld_engine.specs.Inside.Meeting.{AreMets, met_outcomes};
 
 use crate::carrying::carry_from;
 use crate::met::{Met, NO_POINTS, Reference, drawn, meet};
+use crate::moving::target;
 use crate::reading::Reading;
 use crate::seen::is_part;
 use ld_bfc::{State, below_of};
@@ -30,8 +31,8 @@ fn fault(what: What, source: Source) -> Option<Fault>
     Some(Fault { what, source })
 }
 
-// Whether the file is in hand.
-fn on_way(way: &[TextId], text: TextId, file: TextId) -> bool
+// Whether the file is on the way or is the text behind it.
+pub(crate) fn on_way(way: &[TextId], text: TextId, file: TextId) -> bool
     ensures { result ≡ list_any (λ on. on.0 == file.0) (way.now ++ text ∷ []) }
 {
     let mut rest = way;
@@ -58,8 +59,10 @@ fn passed_down(reference: &Reference) -> Outer
     }
 }
 
-// A part text is an entry of its own where the text that refers to it is none.
+// A part text is an entry of its own where the text that refers to it is none. The entry is of the
+// text at which its moves end.
 fn push_part(
+    alloc: Global,
     texts: &Texts,
     outer: &Outer,
     file: TextId,
@@ -74,7 +77,7 @@ fn push_part(
     let _: [Point; 0] = NO_POINTS;
     if !is_part(texts, outer.source.text) && is_part(texts, file) {
         entries.push(Entry::Part {
-            file,
+            file: target(alloc, texts, file)?,
             colour: outer.colour,
             source: outer.source,
         })?;
@@ -114,7 +117,7 @@ fn enter_file(
     action_law();
     under_laws();
     let outer = passed_down(reference);
-    push_part(texts, &outer, file, entries)?;
+    push_part(alloc, texts, &outer, file, entries)?;
     let start = entries.len();
     if start > most as usize {
         return Ok(None);

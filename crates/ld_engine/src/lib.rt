@@ -22,6 +22,7 @@ mod learning;
 mod limits;
 mod loading;
 mod met;
+mod moving;
 mod reading;
 mod root;
 mod seen;

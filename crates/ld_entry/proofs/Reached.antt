@@ -35,12 +35,12 @@ get-map f [] n = refl
 get-map f (x ∷ xs) zero = refl
 get-map f (x ∷ xs) (suc n) = get-map f xs n
 
-files-at : (known : Known) (n : ℕ) → slice_get (known_files known) n ≡ file_at known n
+pub files-at : (known : Known) (n : ℕ) → slice_get (known_files known) n ≡ file_at known n
 unfolding file_at
 files-at known n = get-map (λ entry. entry.0) known n
 
 -- the number of a file
-number-of : (known : Known) (file : FileId) → text_id_of (known_files known) (Present file) ≡ option_map (λ n. record { 0 = n }) (id_of known file)
+pub number-of : (known : Known) (file : FileId) → text_id_of (known_files known) (Present file) ≡ option_map (λ n. record { 0 = n }) (id_of known file)
 unfolding id_of
 number-of known file = refl
 
