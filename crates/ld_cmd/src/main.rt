@@ -1,4 +1,10 @@
 //! The command `ldraw`: answers about LDraw models, read from files and written to standard output.
+//!
+//! [`run`] answers words over any shelf and any sink, and ends with a [`Status`]; `main` calls it
+//! over the system.
+//!
+//! The tests stand in `src/tests.rt` and `src/tests/`, with those of eight other crates.
+//! `src/tests/library.rt` uses the crates as a library.
 #![tactic(auto)]
 
 mod answer;

@@ -1,5 +1,5 @@
-ghost use Rattle.std.specs.Prelude.{◌≡◌, ◌≤◌, Err, IfSome};
-ghost use Rattle.ld_io.specs.Faults.{HasRisen};
+ghost use Rattle.std.specs.Prelude.{◌≡◌, Err, IfSome};
+ghost use Rattle.ld_io.specs.Shelf.{IsOnlyRead};
 ghost use Rattle.ld_texts.specs.Reach.{wanted};
 ghost use Rattle.ld_engine.specs.Asking.{Answers, AnswersTold};
 ghost use Rattle.ld_engine.specs.Keeping.{IsLearntFor};
@@ -77,9 +77,7 @@ impl Workspace {
         ensures answers { Answers self.old.limits root.now colour self.new.texts.known result }
         ensures told { IfSome (S.files shelf.old) (λ files.
             AnswersTold self.old.limits files root.now self.old.texts.known self.new.texts.known result) }
-        ensures cause { result ≡ Err AnswerError.ReadFault → HasRisen (S.faults shelf.old) (S.faults shelf.new) }
-        ensures same { S.files shelf.new ≡ S.files shelf.old }
-        ensures never_falls { S.faults shelf.old ≤ S.faults shelf.new }
+        ensures shelf { IsOnlyRead (S.files shelf.old) (S.files shelf.new) (S.faults shelf.old) (S.faults shelf.new) (result ≡ Err AnswerError.ReadFault) }
     {
         match self.learn_for(shelf, root) {
             Ok(id) => self.answer_known(root, id, colour),

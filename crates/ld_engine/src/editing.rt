@@ -1,7 +1,7 @@
 // Edits of the texts.
-ghost use Rattle.std.specs.Prelude.{◌≡◌, ◌≤◌, ◌∷◌, [], Err, IfErr, IfSome, IsSome, None, OnErr, OnOk};
+ghost use Rattle.std.specs.Prelude.{◌≡◌, ◌∷◌, [], Err, IfErr, IfSome, IsSome, None, OnErr, OnOk};
 ghost use Rattle.std.specs.Option.{option_copied};
-ghost use Rattle.ld_io.specs.Faults.{HasRisen};
+ghost use Rattle.ld_io.specs.Shelf.{IsOnlyRead};
 ghost use Rattle.ld_texts.specs.Editing.{AreKnown, files_in};
 ghost use Rattle.ld_engine.specs.Editing.{EditStands, Edits, EditsKnown, EditsTold, edit_refused, edit_stopped, first_unknown, wanted_by};
 ghost use Rattle.ld_engine.specs.Keeping.{StopsFor, ToldFor};
@@ -95,9 +95,7 @@ impl Workspace {
             EditsTold self.old.limits files edit.now self.old.texts.known self.new.texts.known result) }
         ensures stands { IfSome (S.files shelf.old) (λ files.
             EditStands (text_on files) edit.now self.old.texts.known self.new.texts.known result) }
-        ensures cause { result ≡ Err EditError.ReadFault → HasRisen (S.faults shelf.old) (S.faults shelf.new) }
-        ensures same { S.files shelf.new ≡ S.files shelf.old }
-        ensures never_falls { S.faults shelf.old ≤ S.faults shelf.new }
+        ensures shelf { IsOnlyRead (S.files shelf.old) (S.files shelf.new) (S.faults shelf.old) (S.faults shelf.new) (result ≡ Err EditError.ReadFault) }
     {
         number_law();
         lookup_law();
@@ -118,9 +116,7 @@ impl Workspace {
         ensures stops { IfErr result (λ stop. StopsFor self.old.limits (wanted_by edit.now) self.new.texts.known stop) }
         ensures told { IfSome (S.files shelf.old) (λ files.
             ToldFor self.old.limits files (wanted_by edit.now) self.old.texts.known self.new.texts.known result) }
-        ensures cause { result ≡ Err LearnStop.ReadFault → HasRisen (S.faults shelf.old) (S.faults shelf.new) }
-        ensures same { S.files shelf.new ≡ S.files shelf.old }
-        ensures never_falls { S.faults shelf.old ≤ S.faults shelf.new }
+        ensures shelf { IsOnlyRead (S.files shelf.old) (S.files shelf.new) (S.faults shelf.old) (S.faults shelf.new) (result ≡ Err LearnStop.ReadFault) }
     {
         while let Some(file) = first_unknown(self.texts(), edit) {
             if let Err(stop) = self.learn_copy(shelf, file) {

@@ -1,6 +1,6 @@
 // Texts from a shelf.
-ghost use Rattle.std.specs.Prelude.{◌≡◌, ◌≤◌, ◌<◌, IfOk, IfSome, Err, true};
-ghost use Rattle.ld_io.specs.Faults.{HasRisen};
+ghost use Rattle.std.specs.Prelude.{◌≡◌, ◌<◌, IfOk, IfSome, Err, true};
+ghost use Rattle.ld_io.specs.Shelf.{IsOnlyRead};
 ghost use Rattle.ld_engine.specs.Fetching.{BytesTold, TextTold};
 ghost use Rattle.ld_engine.specs.Learning.{bytes_on, is_clean, place_of, text_by};
 
@@ -46,9 +46,7 @@ fn fetch_bytes<S: Shelf>(
     most: u32,
 ) -> Result<Option<Bytes>, FetchStop>
     ensures told { IfSome (S.files shelf.old) (λ files. BytesTold (bytes_on files file.now) most result) }
-    ensures cause { result ≡ Err FetchStop.ReadFault → HasRisen (S.faults shelf.old) (S.faults shelf.new) }
-    ensures same { S.files shelf.new ≡ S.files shelf.old }
-    ensures never_falls { S.faults shelf.old ≤ S.faults shelf.new }
+    ensures shelf { IsOnlyRead (S.files shelf.old) (S.files shelf.new) (S.faults shelf.old) (S.faults shelf.new) (result ≡ Err FetchStop.ReadFault) }
 {
     let mut bytes = Vec::new(alloc);
     match shelf.fetch(
@@ -90,9 +88,7 @@ pub(crate) fn fetch_text<S: Shelf>(
 ) -> Result<Option<Lines>, FetchStop>
     ensures told { IfSome (S.files shelf.old) (λ files. TextTold file.now (bytes_on files file.now) most result) }
     ensures clean { IfOk result (λ text. is_clean text ≡ true) }
-    ensures cause { result ≡ Err FetchStop.ReadFault → HasRisen (S.faults shelf.old) (S.faults shelf.new) }
-    ensures same { S.files shelf.new ≡ S.files shelf.old }
-    ensures never_falls { S.faults shelf.old ≤ S.faults shelf.new }
+    ensures shelf { IsOnlyRead (S.files shelf.old) (S.files shelf.new) (S.faults shelf.old) (S.faults shelf.new) (result ≡ Err FetchStop.ReadFault) }
 {
     let bytes = fetch_bytes(alloc, shelf, file, most)?;
     let text = read_text(alloc, file, bytes)?;

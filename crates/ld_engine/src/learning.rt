@@ -1,6 +1,6 @@
 // Files are learnt, each when a root wants it.
-ghost use Rattle.std.specs.Prelude.{◌≡◌, ◌≤◌, ◌<◌, Err, IfErr, IfOk, IfSome, None, OnOk, Some, length, true};
-ghost use Rattle.ld_io.specs.Faults.{HasRisen};
+ghost use Rattle.std.specs.Prelude.{◌≡◌, ◌<◌, Err, IfErr, IfOk, IfSome, None, OnOk, Some, length, true};
+ghost use Rattle.ld_io.specs.Shelf.{IsOnlyRead};
 ghost use Rattle.ld_texts.specs.Known.{id_of};
 ghost use Rattle.ld_engine.specs.Keeping.{IsLearntFor, Keeps, LearnsFile, StopsAt, StopsFor, Tells, ToldFor, refused_by, stopped_at};
 ghost use Rattle.ld_engine.specs.Learning.{LearnsFor, Wanting, is_clean, wanted_for};
@@ -45,9 +45,7 @@ impl Workspace {
         ensures learnt { IfOk result (λ id. IsLearntFor root.now self.new.texts.known id.0) }
         ensures stops { IfErr result (λ stop. StopsFor self.old.limits (wanted_for root.now) self.new.texts.known stop) }
         ensures told { IfSome (S.files shelf.old) (λ files. ToldFor self.old.limits files (wanted_for root.now) self.old.texts.known self.new.texts.known result) }
-        ensures cause { result ≡ Err LearnStop.ReadFault → HasRisen (S.faults shelf.old) (S.faults shelf.new) }
-        ensures same { S.files shelf.new ≡ S.files shelf.old }
-        ensures never_falls { S.faults shelf.old ≤ S.faults shelf.new }
+        ensures shelf { IsOnlyRead (S.files shelf.old) (S.files shelf.new) (S.faults shelf.old) (S.faults shelf.new) (result ≡ Err LearnStop.ReadFault) }
     {
         number_law();
         learning_law();
@@ -68,9 +66,7 @@ impl Workspace {
         ensures known { IfOk result (λ id. id_of self.new.texts.known root.now ≡ Some id.0) }
         ensures stops { IfErr result (λ stop. StopsFor self.old.limits (wanted_for root.now) self.new.texts.known stop) }
         ensures told { IfSome (S.files shelf.old) (λ files. Tells self.old.limits files (wanted_for root.now) self.old.texts.known self.new.texts.known result) }
-        ensures cause { result ≡ Err LearnStop.ReadFault → HasRisen (S.faults shelf.old) (S.faults shelf.new) }
-        ensures same { S.files shelf.new ≡ S.files shelf.old }
-        ensures never_falls { S.faults shelf.old ≤ S.faults shelf.new }
+        ensures shelf { IsOnlyRead (S.files shelf.old) (S.files shelf.new) (S.faults shelf.old) (S.faults shelf.new) (result ≡ Err LearnStop.ReadFault) }
     {
         if let Some(id) = self.texts().id(root) {
             return Ok(id);
@@ -104,9 +100,7 @@ impl Workspace {
         ensures stops { IfErr result (λ stop. StopsAt self.old.limits self.old.texts.known file.now stop) }
         ensures told { IfSome (S.files shelf.old) (λ files. (wants : Wanting) → wants self.old.texts.known ≡ Some file.now →
             Tells self.old.limits files wants self.old.texts.known self.new.texts.known result) }
-        ensures cause { result ≡ Err LearnStop.ReadFault → HasRisen (S.faults shelf.old) (S.faults shelf.new) }
-        ensures same { S.files shelf.new ≡ S.files shelf.old }
-        ensures never_falls { S.faults shelf.old ≤ S.faults shelf.new }
+        ensures shelf { IsOnlyRead (S.files shelf.old) (S.files shelf.new) (S.faults shelf.old) (S.faults shelf.new) (result ≡ Err LearnStop.ReadFault) }
     {
         let file = file.copy(self.alloc)?;
         self.learn_file(shelf, file)
@@ -122,9 +116,7 @@ impl Workspace {
         ensures memory { result ≡ Err LearnStop.Memory → length self.old.texts.known < self.old.limits.texts }
         ensures told { IfSome (S.files shelf.old) (λ files. (wants : Wanting) → wants self.old.texts.known ≡ Some file →
             Tells self.old.limits files wants self.old.texts.known self.new.texts.known result) }
-        ensures cause { result ≡ Err LearnStop.ReadFault → HasRisen (S.faults shelf.old) (S.faults shelf.new) }
-        ensures same { S.files shelf.new ≡ S.files shelf.old }
-        ensures never_falls { S.faults shelf.old ≤ S.faults shelf.new }
+        ensures shelf { IsOnlyRead (S.files shelf.old) (S.files shelf.new) (S.faults shelf.old) (S.faults shelf.new) (result ≡ Err LearnStop.ReadFault) }
     {
         let limits = self.limits();
         if self.texts().known() == limits.texts {

@@ -1,5 +1,12 @@
-//! Questions about the texts of a model: files are learnt by what the model reaches, and answered by
-//! recursive expansion.
+//! Questions about the texts of a model: files are learnt by what the model reaches, and answered
+//! by recursive expansion.
+//!
+//! A [`Workspace`] is opened with [`Limits`] ([`Workspace::open`]). It loads a model's file
+//! ([`Workspace::load`]), answers a root over a shelf ([`Workspace::answer`]), and edits the texts
+//! ([`Workspace::edit`]).
+//!
+//! The tests stand in `ld_cmd`, in `src/tests/limits.rt` and in the tables of worked models beside
+//! it.
 #![tactic(auto)]
 
 mod answering;

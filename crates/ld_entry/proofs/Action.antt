@@ -66,6 +66,10 @@ through-append [] inner used points = through_more-none used (through inner used
 through-append (link ∷ outer) inner used points =
     ap (through_link link used) (through-append outer inner used points) ∙ through_more-one link outer used (through inner used points)
 
+pub map-concatenation : {A B : Type 0} (f : A → B) (xs : List (List A)) → concatenation (map (map f) xs) ≡ map f (concatenation xs)
+map-concatenation f [] = refl
+map-concatenation f (x ∷ xs) = ap (λ ys. map f x ++ ys) (map-concatenation f xs) ∙ sym (map-append f x (concatenation xs))
+
 -- ---- By the laws of colours and of what references pass down.
 
 module _ (unders : UnderLaws) (withs : WithLaws) where
@@ -158,10 +162,6 @@ module _ (unders : UnderLaws) (withs : WithLaws) where
   lines-acted outer enter acts context state number (line ∷ lines) =
       let source : Source = record { text = context.text; line = number } in
       ap (λ o. o ∷ outcomes_from enter (further_below outer context) (next state line) (suc number) lines) (line-acted outer enter acts context state source line) ∙ ap (λ o. map (carried_outcome outer) (line_outcomes enter context state source line) ∷ o) (lines-acted outer enter acts context (next state line) (suc number) lines)
-
-  map-concatenation : {A B : Type 0} (f : A → B) (xs : List (List A)) → concatenation (map (map f) xs) ≡ map f (concatenation xs)
-  map-concatenation f [] = refl
-  map-concatenation f (x ∷ xs) = ap (λ ys. map f x ++ ys) (map-concatenation f xs) ∙ sym (map-append f x (concatenation xs))
 
   text-acted : (outer : Above) (enter : Enter) → Acts outer enter → (context : Context) → outcomes_by_line enter (further_below outer context) ≡ map (map (carried_outcome outer)) (outcomes_by_line enter context)
   text-acted outer enter acts context = lines-acted outer enter acts context (start (context.texts.is_part context.text)) 1 (context.texts.lines context.text)

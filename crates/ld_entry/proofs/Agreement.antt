@@ -1,56 +1,76 @@
--- Texts that agree on a set that no reference leaves give the same there.
-use Rattle.std.proofs.Common.{◌≡◌, ◌++◌, ℕ, zero, suc, Bool, true, List, [], ◌∷◌, Option, Some, None, refl, ap, ◌∙◌}
-use Rattle.std.specs.Prelude.{⊤}
+-- Texts that agree on a set that no reference leaves give the same there: the renaming that changes nothing.
+use Rattle.std.proofs.Common.{◌≡◌, ◌==◌, ℕ, Bool, true, List, [], ◌∷◌, ◌++◌, length, map, Option, Some, None, Ok, Err, refl, ap, sym, ◌∙◌, subst}
+use Rattle.std.specs.Prelude.{option_map}
+use Rattle.std.specs.List.{list_any}
+use Rattle.std.proofs.lemmas.List.{append-nil, map-id}
 use Rattle.ld_names.specs.declared.file.TextId.{TextId}
-use Rattle.ld_num.specs.declared.point.Placement.{Placement}
 use Rattle.ld_line.specs.declared.line.Line.{Line}
-use Rattle.ld_line.specs.declared.line.Line.TheVariants.{Ref}
-use Rattle.ld_bfc.specs.LineState.{next, start}
-use Rattle.ld_bfc.specs.declared.culling.State.{State}
-use Rattle.ld_entry.specs.Carrying.{Above, above_of, beneath}
-use Rattle.ld_entry.specs.Learnt.{FindsInside}
+use Rattle.ld_line.specs.declared.line.Line.TheVariants.{Org, Ref}
+use Rattle.ld_entry.proofs.Renaming.{all-renamed, heights-renamed, none-further}
+use Rattle.ld_entry.specs.Agreement.{Agree, AgreeAs, FindsSame, renamed_above, renamed_link, renamed_outcome, StandFor}
+use Rattle.ld_entry.specs.Answers.{answer, answer_of, left_below}
+use Rattle.ld_entry.specs.Carrying.{Above, colour_above, nothing_above, Outcome}
+use Rattle.ld_entry.specs.Expansion.{expansion_of, neutral_expansion}
+use Rattle.ld_entry.specs.Laws.{AgreementLaw}
 use Rattle.ld_entry.specs.NumberedTexts.{NumberedTexts}
-use Rattle.ld_entry.specs.Outcomes.{all_by_line, concatenation, context_below, context_of, Enter, file_outcomes, found_outcomes, line_outcomes, outcomes_by_line, outcomes_from, outer_of, part_outcomes}
-use Rattle.ld_entry.specs.declared.entry.Source.{Source}
+use Rattle.ld_entry.specs.Outcomes.{all_by_line, concatenation, context_of}
+use Rattle.ld_entry.specs.declared.entry.Entry.TheVariants.{Drawn, Part}
 
--- the names in the references among lines find the same, which is inside
-abbrev pub FindsSame : (TextId → Bool) → NumberedTexts → NumberedTexts → TextId → List Line → Type 0
-FindsSame inside texts other text [] = ⊤
-FindsSame inside texts other text (Ref word placement (Some name) ∷ lines) =
-    (other.found text name ≡ texts.found text name) × FindsInside inside (texts.found text name) × FindsSame inside texts other text lines
-FindsSame inside texts other text (line ∷ lines) = FindsSame inside texts other text lines
+itself : TextId → TextId
+itself text = text
 
-pub record Agree (inside : TextId → Bool) (texts other : NumberedTexts) : Type 0 where
-  pub lines : (text : TextId) → inside text ≡ true → other.lines text ≡ texts.lines text
-  pub is_part : (text : TextId) → inside text ≡ true → other.is_part text ≡ texts.is_part text
-  pub finds : (text : TextId) → inside text ≡ true → FindsSame inside texts other text (texts.lines text)
+-- ---- What nothing changes.
 
--- one text, where the files inside that it enters give the same
-module _ (inside : TextId → Bool) (texts other : NumberedTexts) (way : List TextId) (text : TextId) (above : Above) (enter enter' : Enter) (agree : (state : State) (source : Source) (word : ℕ) (placement : Placement) (file : TextId) → inside file ≡ true → file_outcomes enter' (context_of other way text above) state source word placement file ≡ file_outcomes enter (context_of texts way text above) state source word placement file) where
-  found_outcomes-agree : (state : State) (source : Source) (word : ℕ) (placement : Placement) (found : Option TextId) → FindsInside inside found → found_outcomes enter' (context_of other way text above) state source word placement found ≡ found_outcomes enter (context_of texts way text above) state source word placement found
-  found_outcomes-agree state source word placement None within = refl
-  found_outcomes-agree state source word placement (Some file) within = rw (agree state source word placement file within) refl
+map-stays : {A : Type 0} (f : A → A) → ((x : A) → f x ≡ x) → (xs : List A) → map f xs ≡ xs
+map-stays f stays [] = refl
+map-stays f stays (x ∷ xs) = ap (λ y. y ∷ map f xs) (stays x) ∙ ap (λ ys. x ∷ ys) (map-stays f stays xs)
 
-  lines-agree : (state : State) (number : ℕ) (lines : List Line) → FindsSame inside texts other text lines → outcomes_from enter' (context_of other way text above) state number lines ≡ outcomes_from enter (context_of texts way text above) state number lines
-  lines-agree state number [] same = refl
-  lines-agree state number (Ref word placement (Some name) ∷ lines) same =
-      let source : Source = record { text = text; line = number } in
-      let found = texts.found text name in
-      let rest = lines-agree (next state (Ref word placement (Some name))) (suc number) lines same.2 in
-      ap (λ o. found_outcomes enter' (context_of other way text above) state source word placement o ∷ outcomes_from enter' (context_of other way text above) (next state (Ref word placement (Some name))) (suc number) lines) same.0 ∙ ap (λ o. o ∷ outcomes_from enter' (context_of other way text above) (next state (Ref word placement (Some name))) (suc number) lines) (found_outcomes-agree state source word placement found same.1) ∙ ap (λ o. found_outcomes enter (context_of texts way text above) state source word placement found ∷ o) rest
-  lines-agree state number (line ∷ lines) same =
-      ap (λ o. line_outcomes enter (context_of texts way text above) state (record { text = text; line = number }) line ∷ o) (lines-agree (next state line) (suc number) lines same)
+outcome-stays : (outcome : Outcome) → renamed_outcome itself outcome ≡ outcome
+unfolding itself
+outcome-stays (Ok (Drawn kind certified clip winding colour source points)) = refl
+outcome-stays (Ok (Part file colour source)) = refl
+outcome-stays (Err fault) = refl
 
-  text-agrees : other.is_part text ≡ texts.is_part text → other.lines text ≡ texts.lines text → FindsSame inside texts other text (texts.lines text) → outcomes_by_line enter' (context_of other way text above) ≡ outcomes_by_line enter (context_of texts way text above)
-  text-agrees part lines same =
-      ap (λ p. outcomes_from enter' (context_of other way text above) (start p) 1 (other.lines text)) part ∙ ap (λ ls. outcomes_from enter' (context_of other way text above) (start (texts.is_part text)) 1 ls) lines ∙ lines-agree (start (texts.is_part text)) 1 (texts.lines text) same
+above-stays : (above : Above) → renamed_above itself above ≡ above
+unfolding itself
+above-stays above =
+    ap (λ links. let a : Above = record { links = links; colour = above.colour; below = above.below } in a) (map-stays (renamed_link itself) (λ link. refl) above.links)
 
-part-agrees : (texts other : NumberedTexts) (way : List TextId) (text file : TextId) (above : Above) (source : Source) (word : ℕ) → other.is_part text ≡ texts.is_part text → other.is_part file ≡ texts.is_part file → part_outcomes (context_of other way text above) source word file ≡ part_outcomes (context_of texts way text above) source word file
-part-agrees texts other way text file above source word part part_file = rw (part, part_file) refl
+found-stays : (found : Option TextId) → found ≡ option_map itself found
+unfolding itself
+found-stays None = refl
+found-stays (Some text) = refl
 
-pub all-agree : (inside : TextId → Bool) (texts other : NumberedTexts) → Agree inside texts other → (left : ℕ) (way : List TextId) (text : TextId) (above : Above) → inside text ≡ true → all_by_line left (context_of other way text above) ≡ all_by_line left (context_of texts way text above)
-unfolding all_by_line
-all-agree inside texts other agrees zero way text above within =
-    text-agrees inside texts other way text above None None (λ state source word placement file in_file. refl) (agrees.is_part text within) (agrees.lines text within) (agrees.finds text within)
-all-agree inside texts other agrees (suc left) way text above within =
-    text-agrees inside texts other way text above (Some (λ inner. concatenation (all_by_line left inner))) (Some (λ inner. concatenation (all_by_line left inner))) (λ state source word placement file in_file. ap (λ o. o ++ concatenation (all_by_line left (context_below (context_of other way text above) (outer_of state source word placement) file))) (part-agrees texts other way text file above source word (agrees.is_part text within) (agrees.is_part file in_file)) ∙ ap (λ o. part_outcomes (context_of texts way text above) source word file ++ concatenation o) (all-agree inside texts other agrees left (way ++ text ∷ []) file (beneath above (above_of (outer_of state source word placement))) in_file)) (agrees.is_part text within) (agrees.lines text within) (agrees.finds text within)
+-- ---- So these texts agree under the same numbers.
+
+lines-stand : (inside : TextId → Bool) (texts other : NumberedTexts) (text : TextId) (lines : List Line) → FindsSame inside texts other text lines → StandFor inside itself texts other text lines lines
+unfolding itself
+lines-stand inside texts other text [] same = tt
+lines-stand inside texts other text (Ref word placement (Some name) ∷ lines) same =
+    ((name, refl, same.0 ∙ found-stays (texts.found text name), same.1), lines-stand inside texts other text lines same.2)
+lines-stand inside texts other text (Org part ∷ lines) same = ((part, refl), lines-stand inside texts other text lines same)
+lines-stand inside texts other text (line ∷ lines) same = (refl, lines-stand inside texts other text lines same)
+
+agree-itself : (inside : TextId → Bool) (texts other : NumberedTexts) → Agree inside texts other → AgreeAs inside itself texts other
+unfolding itself
+agree-itself inside texts other agree = record {
+  lines = λ text within. subst (StandFor inside itself texts other text (texts.lines text)) (sym (agree.lines text within)) (lines-stand inside texts other text (texts.lines text) (agree.finds text within));
+  is_part = agree.is_part;
+  apart = λ text file in_text in_file same. same;
+}
+
+all-agree : (inside : TextId → Bool) (texts other : NumberedTexts) → Agree inside texts other → (left : ℕ) (way : List TextId) (text : TextId) (above : Above) → inside text ≡ true → all_by_line left (context_of other way text above) ≡ all_by_line left (context_of texts way text above)
+unfolding itself
+all-agree inside texts other agree left way text above within =
+    let given = all_by_line left (context_of texts way text above) in
+    let none = none-further (texts.lines text) (other.lines text) (ap length (agree.lines text within)) in
+    ap (λ w. all_by_line left (context_of other w text above)) (sym (map-id way)) ∙ ap (λ a. all_by_line left (context_of other (map itself way) text a)) (sym (above-stays above)) ∙ all-renamed inside itself texts other (agree-itself inside texts other agree) left way text above (λ file in_file. ap (list_any (λ on. on.0 == file.0)) (map-id way)) within ∙ ap (λ o. map (map (renamed_outcome itself)) given ++ o) none ∙ append-nil (map (map (renamed_outcome itself)) given) ∙ map-stays (map (renamed_outcome itself)) (map-stays (renamed_outcome itself) outcome-stays) given
+
+pub agrees : AgreementLaw
+unfolding answer neutral_expansion itself
+agrees = record {
+  outcomes = all-agree;
+  answers = λ inside texts other agree depth most root colour within. ap (λ lines. answer_of most (concatenation lines)) (all-agree inside texts other agree (left_below depth []) [] root (colour_above colour) within);
+  expansions = λ inside texts other agree depth most way text within. ap (expansion_of most) (all-agree inside texts other agree (left_below depth way) way text nothing_above within);
+  heights = λ inside texts other agree bound text within. heights-renamed inside itself texts other (agree-itself inside texts other agree) bound text within;
+}

@@ -14,7 +14,9 @@ use Rattle.ld_colour.specs.Colour.{colour_of}
 use Rattle.ld_entry.specs.Answers.{answer}
 use Rattle.ld_entry.specs.Carrying.{moved_points}
 use Rattle.ld_entry.specs.Expansion.{neutral_expansion}
+use Rattle.ld_entry.specs.Heights.{height}
 use Rattle.ld_entry.specs.Outcomes.{all_by_line}
+use Rattle.ld_entry.specs.KeptRows as kept
 use Rattle.ld_entry.specs.Rows as row
 
 -- what an answer computes with
@@ -153,3 +155,37 @@ name_without_normal_form = refl
 pub number_out_of_range : row.NumberOutOfRange
 unfolding values
 number_out_of_range = refl
+
+-- ---- Expansions that may be kept.
+
+pub heights_of_models : kept.HeightsOfModels
+unfolding values height
+heights_of_models = (refl, refl, refl, refl)
+
+pub at_the_depth : kept.AtTheDepth
+unfolding values height
+at_the_depth = (refl, refl, refl)
+
+pub above_the_depth : kept.AboveTheDepth
+unfolding values height
+above_the_depth = (refl, refl, refl)
+
+pub cycle_is_high : kept.CycleIsHigh
+unfolding values
+cycle_is_high = (refl, refl)
+
+pub in_the_main_colour : kept.InTheMainColour
+unfolding values
+in_the_main_colour = refl
+
+pub end_behind_an_outer_range : kept.EndBehindAnOuterRange
+unfolding values
+end_behind_an_outer_range = (refl, refl, refl)
+
+pub one_entry_more_than_allowed : kept.OneEntryMoreThanAllowed
+unfolding values
+one_entry_more_than_allowed = (refl, refl, refl)
+
+pub as_many_entries_as_allowed : kept.AsManyEntriesAsAllowed
+unfolding values
+as_many_entries_as_allowed = refl

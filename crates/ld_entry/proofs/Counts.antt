@@ -26,12 +26,12 @@ sum-lengths (line ∷ lines) =
     sum_by-cons (λ n. n) (length line) (map length lines) ∙ ap (λ n. length line + n) (sum-lengths lines) ∙ sym (length-append line (concatenation lines))
 
 -- outcomes without a fault are entries
-no-faults : (xs ys : List Outcome) → first_fault (xs ++ ys) ≡ None → (first_fault xs ≡ None) × (first_fault ys ≡ None)
+pub no-faults : (xs ys : List Outcome) → first_fault (xs ++ ys) ≡ None → (first_fault xs ≡ None) × (first_fault ys ≡ None)
 no-faults [] ys none = (refl, none)
 no-faults (Err fault ∷ xs) ys none = cc
 no-faults (Ok entry ∷ xs) ys none = no-faults xs ys none
 
-all-entries : (xs : List Outcome) → first_fault xs ≡ None → length xs ≡ length (entries_before xs)
+pub all-entries : (xs : List Outcome) → first_fault xs ≡ None → length xs ≡ length (entries_before xs)
 all-entries [] none = refl
 all-entries (Err fault ∷ xs) none = cc
 all-entries (Ok entry ∷ xs) none = ap suc (all-entries xs none)

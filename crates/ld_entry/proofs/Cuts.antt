@@ -174,4 +174,4 @@ answer_by-shown most xs entries end is =
     ap (λ es. answer_by most es end) (sym (entries_before-shown entries end)) ∙ ap (answer_by most (entries_before (map Ok entries ++ at_end end))) (sym (first_fault-shown entries end)) ∙ ap (answer_of most) is ∙ answer_of-cut most xs
 
 pub cuts : CutLaws
-cuts = record { twice = cut-twice; in_front = cut-in_front; behind = λ most xs ys. cut-behind most most xs ys (omega arith); below = λ most above xs. cut-carried_outcome most most above xs (omega arith); answers = answer_of-cut; shown = cut-shown; only = cut-only; shown_answer = answer_by-shown }
+cuts = record { twice = cut-twice; longer = cut-longer; in_front = cut-in_front; behind = λ most xs ys. cut-behind most most xs ys (omega arith); below = λ most above xs. cut-carried_outcome most most above xs (omega arith); answers = answer_of-cut; shown = cut-shown; only = cut-only; shown_answer = answer_by-shown }

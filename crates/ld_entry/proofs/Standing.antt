@@ -8,14 +8,11 @@ use Rattle.ld_names.specs.declared.file.TextId.{TextId}
 use Rattle.ld_line.specs.Reading.{line_of}
 use Rattle.ld_line.specs.declared.line.Line.{Line}
 use Rattle.ld_line.specs.declared.line.Line.TheVariants.{Ref}
-use Rattle.ld_entry.proofs.Agreement.{Agree, all-agree, FindsSame}
-use Rattle.ld_entry.specs.Answers.{answer, answer_of, left_below}
-use Rattle.ld_entry.specs.Carrying.{Above, colour_above, nothing_above}
-use Rattle.ld_entry.specs.Expansion.{expansion_of, neutral_expansion}
+use Rattle.ld_entry.proofs.Agreement.{agrees}
+use Rattle.ld_entry.specs.Agreement.{Agree, FindsSame}
 use Rattle.ld_entry.specs.Laws.{StandingLaw}
 use Rattle.ld_entry.specs.Learnt.{IsClosed, WantsNothing}
 use Rattle.ld_entry.specs.NumberedTexts.{file_is_part, found_from, is_part_in, known_files, known_texts, standing_lines, lines_of_file, text_id_of, standing_texts}
-use Rattle.ld_entry.specs.Outcomes.{all_by_line, concatenation, context_of}
 
 -- a known file stands as it is known
 standing-known : (known : Map) (shelf : FileId → Text) (file : FileId) (text : Text) → known file ≡ Some text → standing known shelf file ≡ Some text
@@ -55,13 +52,9 @@ module _ (stays : FindStays) (equality : IsFileEquality) where
           let there = known_at known text.0 at.0 at.1 in
           ap (of (standing (known_map known) shelf)) at.1 ∙ alike (standing (known_map known) shelf) (known_map known) at.0 (standing-known (known_map known) shelf at.0 there.0 there.1 ∙ sym there.1) ∙ sym (ap (of (known_map known)) at.1)
 
-  lines-same : (inside : TextId → Bool) (known : Known) (shelf : FileId → Text) → IsClosed inside known → (left : ℕ) (way : List TextId) (text : TextId) (above : Above) → inside text ≡ true → all_by_line left (context_of (standing_texts known shelf) way text above) ≡ all_by_line left (context_of (known_texts known) way text above)
-  lines-same inside known shelf learnt = all-agree inside (known_texts known) (standing_texts known shelf) (agree inside known shelf learnt)
-
   pub stands : StandingLaw
-  unfolding answer neutral_expansion
   stands = record {
-    outcomes = lines-same;
-    answers = λ inside known shelf learnt depth most root colour within. ap (λ lines. answer_of most (concatenation lines)) (lines-same inside known shelf learnt (left_below depth []) [] root (colour_above colour) within);
-    expansions = λ inside known shelf learnt depth most way text within. ap (expansion_of most) (lines-same inside known shelf learnt (left_below depth way) way text nothing_above within);
+    outcomes = λ inside known shelf learnt. agrees.outcomes inside (known_texts known) (standing_texts known shelf) (agree inside known shelf learnt);
+    answers = λ inside known shelf learnt. agrees.answers inside (known_texts known) (standing_texts known shelf) (agree inside known shelf learnt);
+    expansions = λ inside known shelf learnt. agrees.expansions inside (known_texts known) (standing_texts known shelf) (agree inside known shelf learnt);
   }

@@ -1,5 +1,5 @@
 -- Answers to queries: the first fault of an expansion, or its entries. The limit on entries is this project's own.
-use Rattle.std.specs.Prelude.{ℕ, zero, suc, ◌-◌, List, [], ◌∷◌, length, map, slice_get, Option, Some, None, Result, Ok, Err}
+use Rattle.std.specs.Prelude.{ℕ, zero, suc, ◌+◌, ◌-◌, List, [], ◌∷◌, length, map, slice_get, Option, Some, None, Result, Ok, Err}
 use Rattle.ld_names.specs.declared.file.TextId.{TextId}
 use Rattle.ld_colour.specs.declared.colour.Colour.{Colour}
 use Rattle.ld_entry.specs.Carrying.{colour_above, Outcome}
@@ -59,6 +59,11 @@ root_outcomes texts depth root colour = all_by_line (left_below depth []) (conte
 -- `step_parts (texts.lines root)` of them are the steps of the answer.
 unfoldable pub outcome_counts : NumberedTexts → ℕ → TextId → Colour → List ℕ
 outcome_counts texts depth root colour = map length (root_outcomes texts depth root colour)
+
+-- the sums of the first of some counts, of the first two, and so on, each with what stands before them
+abbrev pub running_sums : ℕ → List ℕ → List ℕ
+running_sums before [] = []
+running_sums before (count ∷ counts) = (before + count) ∷ running_sums (before + count) counts
 
 -- the outcomes up to and with the first fault, or the first entry too many
 abbrev pub until_end : ℕ → List Outcome → List Outcome

@@ -7,12 +7,8 @@ use Rattle.ld_entry.specs.Carrying.{nothing_above, Outcome}
 use Rattle.ld_entry.specs.NumberedTexts.{NumberedTexts}
 use Rattle.ld_entry.specs.Outcomes.{all_by_line, concatenation, context_of}
 use Rattle.ld_entry.specs.declared.entry.Entry.{Entry}
+use Rattle.ld_entry.specs.declared.entry.Expansion.{Expansion}
 use Rattle.ld_entry.specs.declared.entry.Fault.{Fault}
-
-pub record Expansion : Type 0 where
-  pub entries : List Entry
-  pub line_ends : List ℕ
-  pub end : Option Fault
 
 -- the entries before the first fault, but no more than one too many
 abbrev pub first_entries : ℕ → List Outcome → List Entry

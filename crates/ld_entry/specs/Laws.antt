@@ -1,23 +1,32 @@
 -- Laws of recursive expansion.
-use Rattle.std.specs.Prelude.{◌≡◌, ◌≤◌, ◌<◌, ◌+◌, ◌++◌, ◌⊎◌, ℕ, suc, Bool, true, All, List, [], ◌∷◌, map, length, sum, take, slice_get, Option, Some, None, Ok, Err, IfOk}
+use Rattle.std.specs.Prelude.{◌≡◌, ◌≤◌, ◌<◌, ◌+◌, ◌++◌, ◌⊎◌, ℕ, suc, Bool, true, All, List, [], ◌∷◌, map, min, length, sum, take, slice_get, Option, Some, None, Ok, Err, IfOk}
+use Rattle.ld_names.specs.Finding.{IsThere}
 use Rattle.ld_names.specs.Standing.{Known, Map, Text}
 use Rattle.ld_names.specs.declared.file.FileId.{FileId}
 use Rattle.ld_names.specs.declared.file.TextId.{TextId}
+use Rattle.ld_num.specs.declared.point.Placement.{Placement}
 use Rattle.ld_line.specs.Shown.{GiveEntries}
 use Rattle.ld_line.specs.declared.line.Line.{Line}
+use Rattle.ld_line.specs.declared.line.Line.TheVariants.{Ref}
+use Rattle.ld_texts.specs.Known.{AreDistinct, id_of}
+use Rattle.ld_texts.specs.Reach.{wanted}
 use Rattle.ld_bfc.specs.LineState.{state_before}
+use Rattle.ld_bfc.specs.declared.culling.State.{State}
 use Rattle.ld_colour.specs.Colour.{is_lawful, under}
 use Rattle.ld_colour.specs.declared.colour.Colour.{Colour}
 use Rattle.ld_colour.specs.declared.colour.Colour.TheVariants.{Code}
-use Rattle.ld_entry.specs.Answers.{answer, answer_by, answer_of, until_end, entries_before, first_fault, left_below, outcome_counts}
+use Rattle.ld_entry.specs.Agreement.{Agree, AgreeAs, renamed_above, renamed_answer, renamed_outcome}
+use Rattle.ld_entry.specs.Answers.{answer, answer_by, answer_of, until_end, entries_before, first_fault, left_below, outcome_counts, running_sums}
 use Rattle.ld_entry.specs.Carrying.{Above, above_of, beneath, carried_entry, carried_outcome, nothing_above, Outcome}
-use Rattle.ld_entry.specs.Expansion.{end_of, Expansion, expansion_of, first_entries, neutral_expansion}
+use Rattle.ld_entry.specs.Expansion.{end_of, expansion_of, first_entries, neutral_expansion}
+use Rattle.ld_entry.specs.Heights.{found_by, height, IsLow, IsWalk, Refers, tallest}
 use Rattle.ld_entry.specs.Lawful.{IsLawfulEntry, IsLawfulOutcome}
-use Rattle.ld_entry.specs.Learnt.{IsClosed}
+use Rattle.ld_entry.specs.Learnt.{IsClosed, IsLearnt}
 use Rattle.ld_entry.specs.NumberedTexts.{known_texts, NumberedTexts, standing_texts, texts_over}
-use Rattle.ld_entry.specs.Outcomes.{all, all_by_line, concatenation, Context, context_of, Enter, line_outcomes, outcomes_by_line}
+use Rattle.ld_entry.specs.Outcomes.{all, all_by_line, concatenation, Context, context_of, Enter, found_outcomes, line_outcomes, outcomes_by_line, outer_of, part_outcomes}
 use Rattle.ld_entry.specs.declared.entry.Entry.{Entry}
 use Rattle.ld_entry.specs.declared.entry.Entry.TheVariants.{Drawn, Part}
+use Rattle.ld_entry.specs.declared.entry.Expansion.{Expansion}
 use Rattle.ld_entry.specs.declared.entry.Fault.{Fault}
 use Rattle.ld_entry.specs.declared.entry.Outer.{Outer}
 use Rattle.ld_entry.specs.declared.entry.Source.{Source}
@@ -84,6 +93,8 @@ at_end (Some fault) = Err fault ∷ []
 -- What a cut leaves out does not count.
 pub record CutLaws : Type 0 where
   pub twice : (most : ℕ) (outcomes : List Outcome) → until_end most (until_end most outcomes) ≡ until_end most outcomes
+  -- a cut that leaves more, and then one that leaves less
+  pub longer : (most more : ℕ) (outcomes : List Outcome) → most ≤ more → until_end most (until_end more outcomes) ≡ until_end most outcomes
   pub in_front : (most : ℕ) (outcomes behind : List Outcome) → until_end most (until_end most outcomes ++ behind) ≡ until_end most (outcomes ++ behind)
   pub behind : (most : ℕ) (before outcomes : List Outcome) → until_end most (before ++ until_end most outcomes) ≡ until_end most (before ++ outcomes)
   pub below : (most : ℕ) (above : Above) (outcomes : List Outcome) → until_end most (map (carried_outcome above) (until_end most outcomes)) ≡ until_end most (map (carried_outcome above) outcomes)
@@ -123,13 +134,81 @@ pub record CountLaw : Type 0 where
   -- together they are the entries of the answer
   pub whole : (texts : NumberedTexts) (depth most : ℕ) (root : TextId) (colour : Colour) (entries : List Entry) → answer texts depth most root colour ≡ Ok entries → sum (outcome_counts texts depth root colour) ≡ length entries
 
+-- Where there is an answer, in whatever colour, the expansion of the root counts at its lines what they give together.
+abbrev pub LineEndsLaw : Type 0
+LineEndsLaw =
+    (texts : NumberedTexts) (depth most : ℕ) (root : TextId) (colour : Colour) (entries : List Entry) → answer texts depth most root colour ≡ Ok entries → (neutral_expansion texts depth most [] root).line_ends ≡ running_sums 0 (outcome_counts texts depth root colour)
+
 -- ---- Known and standing texts.
+
+-- Where nothing is wanted for a root, the texts that it reaches are learnt.
+abbrev pub ReachedLaw : Type 0
+ReachedLaw = (known : Known) (root : FileId) (id : ℕ) → AreDistinct known → id_of known root ≡ Some id → wanted known root ≡ None → IsLearnt known root id
 
 -- Where nothing is wanted, the known texts give what the texts as they stand give, whatever the shelf has.
 pub record StandingLaw : Type 0 where
   pub outcomes : (inside : TextId → Bool) (known : Known) (shelf : FileId → Text) → IsClosed inside known → (left : ℕ) (way : List TextId) (text : TextId) (above : Above) → inside text ≡ true → all_by_line left (context_of (standing_texts known shelf) way text above) ≡ all_by_line left (context_of (known_texts known) way text above)
   pub answers : (inside : TextId → Bool) (known : Known) (shelf : FileId → Text) → IsClosed inside known → (depth most : ℕ) (root : TextId) (colour : Colour) → inside root ≡ true → answer (standing_texts known shelf) depth most root colour ≡ answer (known_texts known) depth most root colour
   pub expansions : (inside : TextId → Bool) (known : Known) (shelf : FileId → Text) → IsClosed inside known → (depth most : ℕ) (way : List TextId) (text : TextId) → inside text ≡ true → neutral_expansion (standing_texts known shelf) depth most way text ≡ neutral_expansion (known_texts known) depth most way text
+
+-- ---- Heights and ways.
+
+pub record WalkLaws : Type 0 where
+  -- a line refers to what its name finds
+  pub refers : (texts : NumberedTexts) (text other : TextId) (index word : ℕ) (placement : Placement) (name : List ℕ) → slice_get (texts.lines text) index ≡ Some (Ref word placement (Some name)) → texts.found text name ≡ Some other → Refers texts text other
+  -- and a walk to its text leads on to that
+  pub longer : (texts : NumberedTexts) (way : List TextId) (text other : TextId) → IsWalk texts (way ++ text ∷ []) → Refers texts text other → IsWalk texts ((way ++ text ∷ []) ++ other ∷ [])
+
+-- A text that is found is there.
+abbrev pub FoundLaw : Type 0
+FoundLaw = (texts : Map) (files : List FileId) (text other : TextId) → Refers (texts_over texts files) text other → (file : FileId) × (slice_get files other.0 ≡ Some file) × IsThere texts file
+
+pub record HeightLaws : Type 0 where
+  -- a walk from a text has no more texts than its height, up to a cap
+  pub longest : (texts : NumberedTexts) (cap : ℕ) (text : TextId) (rest : List TextId) → IsWalk texts (text ∷ rest) → min cap (suc (length rest)) ≤ height cap texts text
+  -- and some walk has as many
+  pub walk : (texts : NumberedTexts) (bound : ℕ) (text : TextId) → (rest : List TextId) × IsWalk texts (text ∷ rest) × (height (suc bound) texts text ≡ suc (length rest))
+  -- each height is one more than the tallest of what the text refers to, up to a cap
+  pub over : (texts : NumberedTexts) (cap : ℕ) (text : TextId) → height cap texts text ≡ min cap (suc (tallest (height cap texts) (found_by texts text)))
+  -- and numbers that are so in a set that no reference leaves are the heights there
+  pub one : (inside : TextId → Bool) (texts : NumberedTexts) (cap : ℕ) (heights : TextId → ℕ) → ((text other : TextId) → inside text ≡ true → Refers texts text other → inside other ≡ true) → ((text : TextId) → inside text ≡ true → heights text ≡ min cap (suc (tallest heights (found_by texts text)))) → (text : TextId) → inside text ≡ true → heights text ≡ height cap texts text
+
+-- A text whose height is at most the depth refers to lower ones alone.
+abbrev pub LowerLaw : Type 0
+LowerLaw = (texts : NumberedTexts) (depth : ℕ) (text other : TextId) → Refers texts text other → height (suc depth) texts text ≤ depth → height (suc depth) texts other < height (suc depth) texts text
+
+-- Under a way that leads to it, a low text gives what it gives by itself.
+pub record WayLaw : Type 0 where
+  pub outcomes : (texts : NumberedTexts) (depth : ℕ) (way : List TextId) (text : TextId) (above : Above) → IsWalk texts (way ++ text ∷ []) → IsLow texts depth way text → all_by_line (left_below depth way) (context_of texts way text above) ≡ all_by_line (left_below depth []) (context_of texts [] text above)
+  pub expansions : (texts : NumberedTexts) (depth most : ℕ) (way : List TextId) (text : TextId) → IsWalk texts (way ++ text ∷ []) → IsLow texts depth way text → neutral_expansion texts depth most way text ≡ neutral_expansion texts depth most [] text
+
+-- the entries of an expansion, and the fault that ends it
+abbrev pub shown_by : Expansion → List Outcome
+shown_by expansion = map Ok expansion.entries ++ at_end expansion.end
+
+-- The expansion of a low text by itself stands for what the text gives under a way that leads to it:
+pub record ReuseLaw : Type 0 where
+  -- below nothing, cut,
+  pub alone : (texts : NumberedTexts) (depth most : ℕ) (way : List TextId) (text : TextId) → IsWalk texts (way ++ text ∷ []) → IsLow texts depth way text → until_end most (all (left_below depth way) (context_of texts way text nothing_above)) ≡ shown_by (neutral_expansion texts depth most [] text)
+  -- and, behind the part entry and carried, below a reference that enters it, whatever stands before and behind that
+  pub entered : (texts : NumberedTexts) (depth most left : ℕ) (way : List TextId) (text file : TextId) (state : State) (source : Source) (word : ℕ) (placement : Placement) (before behind : List Outcome) → left_below depth way ≡ suc left → IsWalk texts ((way ++ text ∷ []) ++ file ∷ []) → IsLow texts depth (way ++ text ∷ []) file → until_end most (before ++ (found_outcomes (Some (λ inner. all left inner)) (context_of texts way text nothing_above) state source word placement (Some file) ++ behind)) ≡ until_end most (before ++ ((part_outcomes (context_of texts way text nothing_above) source word file ++ map (carried_outcome (above_of (outer_of state source word placement))) (shown_by (neutral_expansion texts depth most [] file))) ++ behind))
+
+-- ---- Agreement.
+
+-- Texts that agree on a set that no reference leaves give the same there.
+pub record AgreementLaw : Type 0 where
+  pub outcomes : (inside : TextId → Bool) (texts other : NumberedTexts) → Agree inside texts other → (left : ℕ) (way : List TextId) (text : TextId) (above : Above) → inside text ≡ true → all_by_line left (context_of other way text above) ≡ all_by_line left (context_of texts way text above)
+  pub answers : (inside : TextId → Bool) (texts other : NumberedTexts) → Agree inside texts other → (depth most : ℕ) (root : TextId) (colour : Colour) → inside root ≡ true → answer other depth most root colour ≡ answer texts depth most root colour
+  pub expansions : (inside : TextId → Bool) (texts other : NumberedTexts) → Agree inside texts other → (depth most : ℕ) (way : List TextId) (text : TextId) → inside text ≡ true → neutral_expansion other depth most way text ≡ neutral_expansion texts depth most way text
+  pub heights : (inside : TextId → Bool) (texts other : NumberedTexts) → Agree inside texts other → (bound : ℕ) (text : TextId) → inside text ≡ true → height bound other text ≡ height bound texts text
+
+-- Under other numbers they give the same, with these numbers in it.
+pub record RenamingLaw : Type 0 where
+  pub outcomes : (inside : TextId → Bool) (rename : TextId → TextId) (texts other : NumberedTexts) → AgreeAs inside rename texts other → (left : ℕ) (text : TextId) (above : Above) → inside text ≡ true → all left (context_of other [] (rename text) (renamed_above rename above)) ≡ map (renamed_outcome rename) (all left (context_of texts [] text above))
+  pub answers : (inside : TextId → Bool) (rename : TextId → TextId) (texts other : NumberedTexts) → AgreeAs inside rename texts other → (depth most : ℕ) (root : TextId) (colour : Colour) → inside root ≡ true → answer other depth most (rename root) colour ≡ renamed_answer rename (answer texts depth most root colour)
+  -- and line by line, where there are as many
+  pub counts : (inside : TextId → Bool) (rename : TextId → TextId) (texts other : NumberedTexts) → AgreeAs inside rename texts other → (depth : ℕ) (root : TextId) (colour : Colour) → inside root ≡ true → length (other.lines (rename root)) ≡ length (texts.lines root) → outcome_counts other depth (rename root) colour ≡ outcome_counts texts depth root colour
+  pub heights : (inside : TextId → Bool) (rename : TextId → TextId) (texts other : NumberedTexts) → AgreeAs inside rename texts other → (bound : ℕ) (text : TextId) → inside text ≡ true → height bound other (rename text) ≡ height bound texts text
 
 -- ---- Lawful entries.
 

@@ -3,7 +3,10 @@ pub mod NumberedTexts
 pub mod Outcomes
 pub mod Answers
 pub mod Expansion
+pub mod Heights
 pub mod Learnt
+pub mod Agreement
 pub mod Lawful
 pub mod Laws
 pub mod Rows
+pub mod KeptRows

@@ -28,7 +28,7 @@ lies_in folder name lines = (record { folder = folder; name = name }, Some lines
 
 -- a text beside the model
 abbrev pub block : List ℕ → List (List ℕ) → FileId × Text
-block name lines = lies_in Model name lines
+block name lines = lies_in (Model 1) name lines
 
 -- a reference: its colour and its offset, the matrix that changes nothing, and the name of its file
 abbrev pub ref : List ℕ → List ℕ → List ℕ
@@ -220,7 +220,7 @@ abbrev pub RootWithoutLines : Type 0
 RootWithoutLines = answer_in three_deep 2 ≡ Ok []
 
 abbrev pub AbsentRoot : Type 0
-AbsentRoot = answer_in ((record { folder = Model; name = codes "m.ldr" }, None) ∷ []) 0 ≡ Ok []
+AbsentRoot = answer_in ((record { folder = Model 1; name = codes "m.ldr" }, None) ∷ []) 0 ≡ Ok []
 
 abbrev pub UnknownRoot : Type 0
 UnknownRoot = answer_in [] 7 ≡ Ok []

@@ -1,7 +1,7 @@
 use ld_bfc::Below;
 use ld_colour::Colour;
 use ld_line::{Kind, Winding};
-use ld_names::TextId;
+use ld_names::{List, TextId};
 use ld_num::{Placement, Point};
 
 /// The line of a known text from which something comes; lines are numbered from 1.
@@ -60,6 +60,19 @@ pub enum What {
 pub struct Fault {
     pub what: What,
     pub source: Source,
+}
+
+/// The expansion of a text in the main colour and below nothing, cut behind the first fault or the
+/// first entry too many.
+#[derive(Debug, Drop)]
+pub struct Expansion {
+    /// The entries before the first fault, but no more than one too many.
+    pub entries: List<Entry>,
+    /// For each line, how many of them stand up to and with it; the lines behind the end repeat the
+    /// last number.
+    pub line_ends: List<u32>,
+    /// The first fault, unless an entry too many stands before it.
+    pub end: Option<Fault>,
 }
 
 /// What a reference passes down to the entries of the file that it refers to: its placement, its

@@ -1,8 +1,9 @@
-ghost use Rattle.ld_entry.specs.Laws.{ActionLaw, CarryLaws, CountLaw, CutLaws, EndsLaws, LawfulLaw, LineLaws, LinkLaw, StandingLaw, TintLaw};
+ghost use Rattle.ld_entry.specs.Laws.{ActionLaw, AgreementLaw, CarryLaws, CountLaw, CutLaws, EndsLaws, FoundLaw, HeightLaws, LawfulLaw, LineEndsLaw, LineLaws, LinkLaw, LowerLaw, ReachedLaw, RenamingLaw, ReuseLaw, StandingLaw, TintLaw, WalkLaws, WayLaw};
 
 use ld_bfc::{state_laws, with_laws};
 use ld_colour::{lawful_colours, under_laws};
 use ld_names::{file_laws, lookup_law};
+use ld_texts::number_law;
 
 /// References act one after another, and nothing above a text changes nothing.
 pub fn carry_laws()
@@ -61,6 +62,23 @@ pub fn count_law()
     ensures { CountLaw }
 {}
 
+/// Where there is an answer, the ends of the lines in the root's expansion are the running sums of
+/// what the lines give.
+pub fn line_ends_law()
+    ensures { LineEndsLaw }
+{
+    under_laws();
+    with_laws();
+}
+
+/// Where nothing is wanted for a root, the texts that it reaches are a set in which nothing is
+/// wanted, with the root in it.
+pub fn reached_law()
+    ensures { ReachedLaw }
+{
+    number_law();
+}
+
 /// Where nothing is wanted, the known texts give what the texts as they stand give.
 pub fn standing_law()
     ensures { StandingLaw }
@@ -68,6 +86,57 @@ pub fn standing_law()
     lookup_law();
     file_laws();
 }
+
+/// What a line's name finds its text refers to, and a walk that ends at a text goes on to that.
+pub fn walk_laws()
+    ensures { WalkLaws }
+{}
+
+/// A text that a reference finds is there.
+pub fn found_law()
+    ensures { FoundLaw }
+{
+    lookup_law();
+    file_laws();
+}
+
+/// The height of a text is how many texts the longest walk from it has, up to a cap. It is one more
+/// than the tallest of what the text refers to, and numbers that are so are the heights.
+pub fn height_laws()
+    ensures { HeightLaws }
+{}
+
+/// A text whose height is at most the depth refers to lower ones alone: the order in which
+/// expansions may be made.
+pub fn lower_law()
+    ensures { LowerLaw }
+{}
+
+/// Under a way that leads to it, a low text gives what it gives by itself.
+pub fn way_law()
+    ensures { WayLaw }
+{}
+
+/// The expansion of a low text by itself may stand in the place of the text, under any way that
+/// leads to it: what a reference gives that enters it is its part entry, then that expansion
+/// carried, then its end, cut.
+pub fn reuse_law()
+    ensures { ReuseLaw }
+{
+    under_laws();
+    with_laws();
+}
+
+/// Texts that agree on a set that no reference leaves give the same there: the same outcomes,
+/// answers, expansions and heights.
+pub fn agreement_law()
+    ensures { AgreementLaw }
+{}
+
+/// Texts that agree under other numbers give the same, with these numbers in it.
+pub fn renaming_law()
+    ensures { RenamingLaw }
+{}
 
 /// Below a lawful colour all entries have lawful colours, and zero in the points that are not used.
 pub fn lawful_law()

@@ -1,4 +1,5 @@
 //! Entries below references, and worked models by the definition of recursive expansion.
+ghost use Rattle.ld_entry.specs.KeptRows.{AboveTheDepth, AsManyEntriesAsAllowed, AtTheDepth, CycleIsHigh, EndBehindAnOuterRange, HeightsOfModels, InTheMainColour, OneEntryMoreThanAllowed};
 ghost use Rattle.ld_entry.specs.Rows.{AbsentRoot, AsManyAsAllowed, CertificationPassed, CertificationRefused, CertificationStopped, ChainOf64, ChainOf65, ClipAndWinding, Colours, CycleFromTheFirst, CycleFromTheSecond, DepthOfOne, DepthOfThree, DepthOfTwo, DirectColours, EarlierFaultFromOutside, EndsOfAnOrdinaryModel, FirstOfAnOrdinaryModel, InvertnextAndMirror, MatrixOfZeros, MirrorAlone, NameWithoutNormalForm, NoFaultFromOutside, NoLineType, NumberOutOfRange, OneEntryAllowed, OneTooMany, OnlyEntryAllowed, ReferenceToItself, ReferenceWithoutFile, RootWithoutLines, RoundingAtEachReference, UnknownRoot};
 
 mod colours;
@@ -8,7 +9,7 @@ mod numbers;
 mod states;
 mod tables;
 
-use crate::{Entry, Fault, Outer, Source, What, carry};
+use crate::{Entry, Expansion, Fault, Outer, Source, What, carry};
 use ld_bfc::{Below, State};
 use ld_colour::{Colour, Table, TableError, colour_of};
 use ld_line::{BfcWord, BlockLine, Kind, Line, RotWord, Winding, read_line};
@@ -234,6 +235,7 @@ fn crosses_threads<T: Send + Sync>() {}
 // What workers are lent or hand back crosses threads.
 fn types_cross_threads() {
     crosses_threads::<Entry>();
+    crosses_threads::<Expansion>();
     crosses_threads::<Fault>();
     crosses_threads::<Outer>();
     crosses_threads::<Dec>();
@@ -271,6 +273,18 @@ fn models()
     ensures ends_of_an_ordinary_model { EndsOfAnOrdinaryModel }
     ensures chain_of64 { ChainOf64 }
     ensures chain_of65 { ChainOf65 }
+{}
+
+// Expansions that may be kept, and of texts that are too high.
+fn kept_expansions()
+    ensures heights_of_models { HeightsOfModels }
+    ensures at_the_depth { AtTheDepth }
+    ensures above_the_depth { AboveTheDepth }
+    ensures cycle_is_high { CycleIsHigh }
+    ensures in_the_main_colour { InTheMainColour }
+    ensures end_behind_an_outer_range { EndBehindAnOuterRange }
+    ensures one_entry_more_than_allowed { OneEntryMoreThanAllowed }
+    ensures as_many_entries_as_allowed { AsManyEntriesAsAllowed }
 {}
 
 // Back face culling below references.

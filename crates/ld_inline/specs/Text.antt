@@ -2,10 +2,11 @@
 -- step its drawn lines and its step line. Lines are those of File Format 1.0.2 ("Line Type 2" to "Line Type 5",
 -- "Colours", "STEP"), of the Back Face Culling Language Extension ("CERTIFY", "CLIP", "NOCLIP"), and rotation steps as
 -- MLCad writes them.
-use Rattle.std.specs.Prelude.{◌≡◌, ◌&&◌, ℕ, Bool, true, false, List, [], ◌∷◌, ◌++◌, map, take, reverse, Option, Some, None, Result, Ok, Err, if◌then◌else◌, codes, decimal, unwrap_or, ⊤}
+use Rattle.std.specs.Prelude.{◌≡◌, ◌&&◌, ℕ, Bool, true, false, List, [], ◌∷◌, ◌++◌, map, take, reverse, Option, Some, None, Result, Ok, Err, if◌then◌else◌, codes, decimal, unwrap_or}
 use Rattle.std.specs.Cmp.Lexicographic.{pointwise}
 use Rattle.std.specs.List.{flat_map, fold}
 use Rattle.std.specs.Ordering.{int_eq}
+use Rattle.std.specs.Result.{IsOk}
 use Rattle.std.specs.declared.alloc.Global.{Global}
 use Rattle.std.specs.declared.vec.Vec.{Vec}
 use Rattle.ld_num.specs.Text.{dec_text}
@@ -152,8 +153,8 @@ unless_missing (Some code) text = Err code
 unfoldable pub inlined_text : List Entry → List StepPart → Counting → Result (List ℕ) ℕ
 inlined_text entries steps table = unless_missing (first_missing table entries) (written_text table entries steps)
 
--- the text, or the code that has no value; want of memory says nothing
+-- the text, or the code that has no value; memory is lacking only where the text is wanted
 abbrev pub Inlines : Result (List ℕ) ℕ → Result (Vec ℕ Global) InlineError → Type 0
 Inlines wanted (Ok text) = wanted ≡ Ok text.items
 Inlines wanted (Err (NoColour code)) = wanted ≡ Err code
-Inlines wanted (Err Memory) = ⊤
+Inlines wanted (Err Memory) = IsOk wanted

@@ -34,7 +34,8 @@ pub(crate) const NO_POINTS: [Point; 0] = [];
 ///
 /// # Errors
 ///
-/// `NoColour` where an edge colour has no value in the table, and want of memory.
+/// `NoColour` where an edge colour has no value in the table, and want of memory, which is told only
+/// where none lacks.
 #[tactic(auto, unfolding(crate::specs::Text::inlined_text))]
 pub fn inline(
     alloc: Global,

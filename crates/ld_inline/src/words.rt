@@ -1,17 +1,16 @@
 // Words of a line, appended one by one.
-ghost use Rattle.std.specs.Prelude.{◌≡◌, ◌++◌, ◌∷◌, [], ◌<◌, decimal, true, map, take, OnOk};
-ghost use Rattle.std.specs.Fmt.{digit_glyph};
+ghost use Rattle.std.specs.Prelude.{◌≡◌, ◌++◌, ◌∷◌, [], decimal, map, take, OnOk};
 ghost use Rattle.std.specs.List.{flat_map};
 ghost use Rattle.ld_num.specs.Text.{dec_text};
 ghost use Rattle.ld_line.specs.Kind.{points_in};
-ghost use Rattle.ld_line.specs.Printing.{coordinates, direct_text, kind_word, six_hex};
+ghost use Rattle.ld_line.specs.Printing.{coordinates, direct_text};
 ghost use Rattle.ld_colour.specs.Table.{counting};
 ghost use Rattle.ld_inline.specs.Text.{written_colour, drawn_words, lines_text, written_points};
 ghost use Rattle.ld_inline.specs.Inside.Shown.{following};
 
 use itoa::Buffer;
 use ld_colour::{Colour, Table};
-use ld_line::{Kind, Winding};
+use ld_line::{Kind, Winding, kind_word, six_hex};
 use ld_num::{Dec, Point, print_dec};
 use std::alloc::AllocError;
 
@@ -48,31 +47,6 @@ fn append_points(points: &[Point], into: &mut Vec<u8>) -> Result<(), AllocError>
     Ok(())
 }
 
-fn six_hex(value: u32) -> [u8; 6]
-    ensures { result ≡ six_hex value }
-{
-    [
-        hex_digit(value / 0x100000 % 16),
-        hex_digit(value / 0x10000 % 16),
-        hex_digit(value / 0x1000 % 16),
-        hex_digit(value / 0x100 % 16),
-        hex_digit(value / 0x10 % 16),
-        hex_digit(value % 16),
-    ]
-}
-
-#[inline(always)]
-fn hex_digit(digit: u32) -> u8
-    requires { digit < 16 }
-    ensures { result ≡ digit_glyph true digit }
-{
-    if digit < 10 {
-        b'0' + digit as u8
-    } else {
-        b'7' + digit as u8
-    }
-}
-
 fn append_code(code: u32, into: &mut Vec<u8>) -> Result<(), AllocError>
     ensures { OnOk result (into.new.items ≡ into.old.items ++ 32 ∷ decimal code) }
 {
@@ -99,17 +73,6 @@ fn append_colour(colour: Colour, table: &Table, into: &mut Vec<u8>) -> Result<()
             append_direct(table.rgb(Colour::EdgeOf(code)).unwrap_or(0), into)
         }
         Colour::Direct(value) => append_direct(value, into),
-    }
-}
-
-fn kind_word(kind: Kind) -> &'static [u8]
-    ensures { result.now ≡ kind_word kind }
-{
-    match kind {
-        Kind::Line2 => b"2",
-        Kind::Tri => b"3",
-        Kind::Quad => b"4",
-        Kind::Opt => b"5",
     }
 }
 

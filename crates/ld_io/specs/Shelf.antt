@@ -11,12 +11,12 @@ use Rattle.ld_io.specs.Faults.{next_count, HasRisen}
 abbrev pub Files : Type 0
 Files = Place → List ℕ → Option (List ℕ)
 
--- a fetch fails only where the count of faults rose
-abbrev pub FetchCause : ℕ → ℕ → Result Fetched FetchError → Type 0
-FetchCause before after (Ok fetched) = Unit {0}
-FetchCause before after (Err Failed) = HasRisen before after
-FetchCause before after (Err TooBig) = Unit {0}
-FetchCause before after (Err Memory) = Unit {0}
+-- a call only reads from a shelf: the files stay, the count of faults never falls, and a read fault
+-- is told only where the count rose
+pub record IsOnlyRead (files_before files_after : Option Files) (before after : ℕ) (told_fault : Type 0) : Type 0 where
+  pub same : files_after ≡ files_before
+  pub never_falls : before ≤ after
+  pub cause : told_fault → HasRisen before after
 
 -- how many bytes there are after a fetch of at most `max`
 abbrev pub FetchFits : ℕ → Result Fetched FetchError → List ℕ → Type 0

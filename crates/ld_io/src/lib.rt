@@ -1,8 +1,11 @@
 //! The outside of the toolkit: where files come from and where output goes.
 //!
-//! A [`Shelf`] gives files and a [`Sink`] takes bytes. [`SureShelf`] and [`SureSink`] work in memory
-//! and never fail, [`MemShelf`] and [`MemSink`] fail the calls that they were told to fail, and
-//! [`OsShelf`] and [`StdSink`] are the disk and standard output.
+//! A [`Shelf`] gives files ([`Shelf::fetch`]) and a [`Sink`] takes bytes ([`Sink::put`]).
+//! [`SureShelf`] and [`SureSink`] work in memory and never fail, [`MemShelf`] and [`MemSink`] fail
+//! the calls that they were told to fail, and [`OsShelf`] and [`StdSink`] are the disk and standard
+//! output.
+//!
+//! The tests stand in `src/tests.rt`.
 #![tactic(auto)]
 
 mod mem_shelf;

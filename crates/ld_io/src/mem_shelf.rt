@@ -1,9 +1,9 @@
 // A shelf in memory that fails the fetches that it was told to fail.
-ghost use Rattle.std.specs.Prelude.{◌≡◌, ◌<◌, ◌≤◌, ◌^◌, ◌↔◌, [], ◌∷◌, ◌++◌, Some, Err, OnOk, OnErr, IsTrue, IsErrOf};
+ghost use Rattle.std.specs.Prelude.{◌≡◌, ◌<◌, ◌^◌, ◌↔◌, [], ◌∷◌, ◌++◌, Some, Err, OnOk, OnErr, IsTrue, IsErrOf};
 ghost use Rattle.ld_io.specs.Faults.{next_count};
 ghost use Rattle.ld_io.specs.Files.{file_found, HasBytes};
 ghost use Rattle.ld_io.specs.MemShelf.{next_fails};
-ghost use Rattle.ld_io.specs.Shelf.{FetchFits, FetchTold, faults_after_fetch};
+ghost use Rattle.ld_io.specs.Shelf.{FetchFits, FetchTold, IsOnlyRead, faults_after_fetch};
 
 use crate::shelf::{FetchError, Fetched, Place, Shelf};
 use crate::sure_shelf::SureShelf;
@@ -103,7 +103,7 @@ impl Shelf for MemShelf {
           fetches = next_count self.old.fetches;
           faults = faults_after_fetch self.old.faults result;
         } }
-        ensures never_falls { self.old.faults ≤ self.new.faults }
+        ensures shelf { IsOnlyRead (Some (file_found self.old.files)) (Some (file_found self.new.files)) self.old.faults self.new.faults (result ≡ Err FetchError.Failed) }
         ensures failed { IsErrOf result FetchError.Failed ↔ IsTrue (next_fails self.old) }
         ensures memory { result ≡ Err FetchError.Memory → HasBytes (file_found self.old.files place name.now) }
         ensures fits { FetchFits max result into.new.items }

@@ -1,7 +1,7 @@
 // Files of the system.
-ghost use Rattle.std.specs.Prelude.{◌≡◌, ◌<◌, ◌≤◌, ◌^◌, [], None, IfOk, string_bytes};
+ghost use Rattle.std.specs.Prelude.{◌≡◌, ◌<◌, ◌^◌, [], Err, None, IfOk, string_bytes};
 ghost use Rattle.ld_io.specs.OsShelf.{HasNoPath, path_of, stopped_by};
-ghost use Rattle.ld_io.specs.Shelf.{FetchFits, faults_after_fetch};
+ghost use Rattle.ld_io.specs.Shelf.{FetchFits, IsOnlyRead, faults_after_fetch};
 ghost use Rattle.ld_io.specs.Whole.{ReadFits};
 
 use crate::path::{path_end, path_in};
@@ -56,7 +56,7 @@ impl<R> OsShelf<R> {
         ensures answer { result ≡ stopped_by kind }
         ensures counted { self.new ≡
             record self.old { faults = faults_after_fetch self.old.faults result } }
-        ensures never_falls { self.old.faults ≤ self.new.faults }
+        ensures shelf { IsOnlyRead None None self.old.faults self.new.faults (result ≡ Err FetchError.Failed) }
     {
         match kind {
             // A folder is no file.
@@ -115,7 +115,7 @@ impl<R: Files + AllocGlobal + Drop> Shelf for OsShelf<R> {
         requires small { max < 2 ^ 32 }
         ensures counted { self.new ≡
             record self.old { faults = faults_after_fetch self.old.faults result } }
-        ensures never_falls { self.old.faults ≤ self.new.faults }
+        ensures shelf { IsOnlyRead None None self.old.faults self.new.faults (result ≡ Err FetchError.Failed) }
         ensures no_path { HasNoPath name.now → result ≡ Ok Fetched.Absent }
         ensures fits { FetchFits max result into.new.items }
     {

@@ -1,6 +1,6 @@
 // Where files come from.
-ghost use Rattle.std.specs.Prelude.{◌≡◌, ℕ, ◌<◌, ◌≤◌, ◌^◌, [], Option, IfSome};
-ghost use Rattle.ld_io.specs.Shelf.{Files, FetchCause, FetchFits, FetchTold};
+ghost use Rattle.std.specs.Prelude.{◌≡◌, ℕ, ◌<◌, ◌^◌, [], Err, Option, IfSome};
+ghost use Rattle.ld_io.specs.Shelf.{Files, FetchFits, FetchTold, IsOnlyRead};
 
 use std::alloc::{AllocError, AllocFailed};
 
@@ -69,9 +69,7 @@ pub trait Shelf {
     ) -> Result<Fetched, FetchError>
         requires empty { into.old.items ≡ [] }
         requires small { max < 2 ^ 32 }
-        ensures same { files self.new ≡ files self.old }
-        ensures never_falls { faults self.old ≤ faults self.new }
-        ensures cause { FetchCause (faults self.old) (faults self.new) result }
+        ensures shelf { IsOnlyRead (files self.old) (files self.new) (faults self.old) (faults self.new) (result ≡ Err FetchError.Failed) }
         ensures fits { FetchFits max result into.new.items }
         ensures told { IfSome (files self.old)
             (λ all. FetchTold (all place name.now) max result into.new.items) };

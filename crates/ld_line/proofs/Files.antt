@@ -1,26 +1,14 @@
 -- Where a file stands in a reference.
 use Rattle.std.proofs.Common.{◌≡◌, ◌≢◌, ◌<◌, ◌==◌, ℕ, ℤ, Bool, true, false, List, [], ◌∷◌, cond, length, map, nat_lt, not, Option, Some, None, Result, Ok, Err, refl, ap, sym, ◌∙◌, arith, tests}
 use Rattle.std.specs.List.{list_any}
+use Rattle.std.specs.Option.{is_some}
 use Rattle.ld_num.specs.declared.dec.NumError.{NumError}
-use Rattle.ld_num.specs.declared.dec.NumError.TheVariants.{OutOfRange}
 use Rattle.ld_names.specs.Normal.{checked_name, is_blank, is_control, is_relative, lower, normal_of, onto_trimmed, trim_end, trim_start}
 use Rattle.ld_names.specs.declared.name.NameError.TheVariants.{TooLong, NotRelative, Control}
-use Rattle.ld_line.specs.declared.line.Line.TheVariants.{Malformed, OutOfRange as Beyond}
 use Rattle.ld_line.specs.Colour.{colour_word}
 use Rattle.ld_line.specs.Field.{after_fields}
 use Rattle.ld_line.specs.Numbers.{numbers_of}
 use Rattle.ld_line.specs.Reading.{file_named, reference_of, referred}
-
--- no file stands where nothing but blanks does
-pub no_file : (file : List ℕ) → length (trim_start file) ≡ 0 → (colour : ℕ) → Malformed ≡ referred (Some colour) (Err OutOfRange) (file_named (normal_of file))
-unfolding normal_of
-no_file file ends colour =
-    let start = empty (trim_start file) ends in
-    sym (ap (λ bytes. referred (Some colour) (Err OutOfRange) (file_named (checked_name (map lower (trim_end bytes))))) start)
-  where
-    empty : (xs : List ℕ) → length xs ≡ 0 → xs ≡ []
-    empty [] none = refl
-    empty (x ∷ xs) none = absurd (omega arith)
 
 named_some : (a b c : Bool) (name : List ℕ) → file_named (cond a (Err TooLong) (cond b (Err NotRelative) (cond c (Err Control) (Ok name)))) ≢ None
 named_some true b c name e = cc
@@ -46,15 +34,28 @@ trimmed_some (x ∷ xs) some =
     let cases : (b : Bool) → P b = λ b. elim b as P [ true ↦ λ blank. trimmed_some xs | false ↦ λ kept some. onto_some x (trim_end xs) kept ] in
     cases (is_blank x) refl some
 
-beyond : (colour : ℕ) (file : Option (Option (List ℕ))) → file ≢ None → Beyond ≡ referred (Some colour) (Err OutOfRange) file
-beyond colour None some = absurd (some refl)
-beyond colour (Some name) some = refl
+stands : (file : Option (Option (List ℕ))) → file ≢ None → true ≡ is_some file
+stands None some = absurd (some refl)
+stands (Some name) some = refl
 
--- a file stands where something else does
-pub some_file : (file : List ℕ) → 0 < length (trim_start file) → (colour : ℕ) → Beyond ≡ referred (Some colour) (Err OutOfRange) (file_named (normal_of file))
+-- a file stands where something but blanks does
+some_file : (file : List ℕ) → 0 < length (trim_start file) → true ≡ is_some (file_named (normal_of file))
 unfolding normal_of
-some_file file some colour =
-    beyond colour (file_named (checked_name (map lower (trim_end (trim_start file))))) (checked_some (map lower (trim_end (trim_start file))) (trimmed_some file some))
+some_file file some =
+    stands (file_named (checked_name (map lower (trim_end (trim_start file))))) (checked_some (map lower (trim_end (trim_start file))) (trimmed_some file some))
+
+empty : (xs : List ℕ) → length xs ≡ 0 → xs ≡ []
+empty [] none = refl
+empty (x ∷ xs) none = absurd (omega arith)
+
+no_file : (file : List ℕ) → length (trim_start file) ≡ 0 → false ≡ is_some (file_named (normal_of file))
+unfolding normal_of
+no_file file ends = sym (ap (λ bytes. is_some (file_named (checked_name (map lower (trim_end bytes))))) (empty (trim_start file) ends))
+
+-- whether a file stands, by whether anything stands
+pub file_stands : (file text : List ℕ) (empty : Bool) → text ≡ trim_start file → empty ≡ (length text == 0) → not empty ≡ is_some (file_named (normal_of file))
+file_stands file text true are is = no_file file (grind (arith, tests))
+file_stands file text false are is = some_file file (grind (arith, tests))
 
 -- a reference by a colour word, its numbers and what stands behind them
 pub reference_of-read : (all more : List (List ℕ)) (field rest : List ℕ) (colour : ℕ) (numbers : Result (List ℤ) NumError) (file : List ℕ) → all ≡ field ∷ more → Some colour ≡ colour_word field → numbers_of 12 more ≡ numbers → file ≡ after_fields 13 rest → reference_of all rest ≡ referred (Some colour) numbers (file_named (normal_of file))

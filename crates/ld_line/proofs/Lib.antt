@@ -6,6 +6,8 @@ pub mod Ends
 pub mod Fields
 pub mod Files
 pub mod Fronts
+pub mod LineZero
+pub mod OneReference
 pub mod OtherLines
 pub mod Rotations
 pub mod Steps

@@ -20,4 +20,4 @@ is_part_by_header (line ∷ lines) = unwrap_or (header_of line) (is_part_by_head
 unfoldable pub is_part_text : Folder → List (List ℕ) → Bool
 is_part_text Parts lines = true
 is_part_text P lines = true
-is_part_text Model lines = is_part_by_header (map line_of lines)
+is_part_text (Model document) lines = is_part_by_header (map line_of lines)

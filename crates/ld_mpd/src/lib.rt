@@ -1,5 +1,10 @@
-//! Blocks of LDraw files of several models (MPD): a file cut into its blocks, and blocks joined to a
-//! file.
+//! Blocks of LDraw files of several models (MPD): a file cut into its blocks, and blocks joined to
+//! a file.
+//!
+//! [`split`] cuts a file, [`text_of`] takes its first text alone, and [`join`] puts blocks
+//! together.
+//!
+//! The tests stand in `ld_cmd`, in `src/tests/blocks.rt`.
 #![tactic(auto)]
 
 mod block;

@@ -4,7 +4,8 @@ use Rattle.std.proofs.lemmas.List.Elements.{All-nil, All-cons, All-head, All-tai
 use Rattle.std.specs.Option.{unwrap_or}
 use Rattle.ld_names.specs.declared.file.FileId.{FileId}
 use Rattle.ld_names.specs.declared.file.Folder.{Folder}
-use Rattle.ld_names.specs.Finding.{FindStays, FindsExactly, IsReached, IsThere, Lacks, NothingUnknown, SaysMore}
+use Rattle.ld_names.specs.declared.file.Folder.TheVariants.{Model, Parts, P}
+use Rattle.ld_names.specs.Finding.{DocumentsApart, FindStays, FindsExactly, IsReached, IsThere, Lacks, NothingUnknown, SaySame, SaysMore}
 use Rattle.ld_names.specs.Standing.{Map, Text, Found, Present, Absent, Unknown, file_in, find, find_among, folders_of, found_or, standing}
 
 -- the file that was found
@@ -97,10 +98,11 @@ module _ (known : Map) (name : List ℕ) where
     more-stays says [] never = refl
     more-stays says (first ∷ folders) never = more-step first folders (known (file_in first name)) refl says (more-stays says folders) never
 
-    others-stay : ((folder : Folder) → more (file_in folder name) ≡ known (file_in folder name)) → (folders : List Folder) → find_among more name folders ≡ find_among known name folders
-    others-stay same [] = refl
-    others-stay same (first ∷ folders) =
-        ap (found_or (file_in first name) (find_among more name folders)) (same first) ∙ ap (λ (behind : Found). found_or (file_in first name) behind (known (file_in first name))) (others-stay same folders)
+    others-stay : (folders : List Folder) → All (SaySame known more name) folders → find_among more name folders ≡ find_among known name folders
+    others-stay [] same = refl
+    others-stay (first ∷ folders) same =
+        ap (found_or (file_in first name) (find_among more name folders)) (All-head (SaySame known more name) first folders same)
+        ∙ ap (λ (behind : Found). found_or (file_in first name) behind (known (file_in first name))) (others-stay folders (All-tail (SaySame known more name) first folders same))
 
 pub finds_exactly : FindsExactly
 unfolding find
@@ -114,7 +116,34 @@ pub find_stays : FindStays
 unfolding find
 find_stays = record {
   more = λ known more from name says never. more-stays known name more says (folders_of from) never;
-  others = λ known other from name same. others-stay known name other same (folders_of from);
+  others = λ known other from name same. others-stay known name other (folders_of from) same;
+}
+
+-- where the folder is a document's, it is that document's file that looks
+abbrev IsOwn : Folder → Folder → Type 0
+IsOwn from folder = (document : ℕ) → folder ≡ Model document → from ≡ Model document
+
+own-library : (from : Folder) → All (IsOwn from) (Parts ∷ P ∷ [])
+own-library from = All-cons (IsOwn from) Parts (P ∷ []) (λ document is. cc) (All-cons (IsOwn from) P [] (λ document is. cc) (All-nil (IsOwn from)))
+
+own-folders : (from : Folder) → All (IsOwn from) (folders_of from)
+unfolding folders_of
+own-folders (Model k) = All-cons (IsOwn (Model k)) (Model k) (Parts ∷ P ∷ []) (λ document is. is) (own-library (Model k))
+own-folders Parts = own-library Parts
+own-folders P = own-library P
+
+own-behind : (from : Folder) (before behind : List Folder) → All (IsOwn from) (before ++ behind) → All (IsOwn from) behind
+own-behind from [] behind own = own
+own-behind from (first ∷ before) behind own = own-behind from before behind (All-tail (IsOwn from) first (before ++ behind) own)
+
+own-reached : (known : Map) (from : Folder) (name : List ℕ) (document : ℕ) → IsReached known name (folders_of from) (Model document) → from ≡ Model document
+own-reached known from name document reached =
+    All-head (IsOwn from) (Model document) reached.behind (own-behind from reached.before (Model document ∷ reached.behind) (subst (All (IsOwn from)) reached.order (own-folders from))) document refl
+
+pub documents_apart : DocumentsApart
+documents_apart = record {
+  present = λ known from name found document is. own-reached known from name document ((finds_exactly.present known from name (file_in (Model document) found)).0 is).1;
+  unknown = λ known from name document is. own-reached known from name document ((finds_exactly.unknown known from name (Model document)).0 is).0;
 }
 
 standing-step : (file : FileId) (behind : Found) (text : Text) (folder : Folder) → behind ≢ Unknown folder → found_or file behind (Some text) ≢ Unknown folder

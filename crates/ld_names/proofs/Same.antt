@@ -8,28 +8,36 @@ use Rattle.ld_names.specs.declared.file.FileId.{FileId}
 use Rattle.ld_names.specs.declared.file.Folder.{Folder}
 use Rattle.ld_names.specs.declared.file.Folder.TheVariants.{Model, Parts, P}
 use Rattle.ld_names.specs.Finding.{IsFileEquality}
-use Rattle.ld_names.specs.Standing.{folder_place, same_file}
+use Rattle.ld_names.specs.Standing.{document_of, folder_place, same_file, same_folder}
 
 both : (a b : Bool) → (a && b) ≡ true → (a ≡ true) × (b ≡ true)
 both true b h = (refl, h)
 both false b h = cc
 
-same_place : (a b : Folder) → folder_place a ≡ folder_place b → a ≡ b
-same_place Model Model h = refl
-same_place Parts Parts h = refl
-same_place P P h = refl
-same_place Model Parts h = absurd (omega arith)
-same_place Model P h = absurd (omega arith)
-same_place Parts Model h = absurd (omega arith)
-same_place Parts P h = absurd (omega arith)
-same_place P Model h = absurd (omega arith)
-same_place P Parts h = absurd (omega arith)
+same-places : (a b : Folder) → folder_place a ≡ folder_place b → document_of a ≡ document_of b → a ≡ b
+same-places (Model a) (Model b) place document = ap Model document
+same-places Parts Parts place document = refl
+same-places P P place document = refl
+same-places (Model a) Parts place document = absurd (omega arith)
+same-places (Model a) P place document = absurd (omega arith)
+same-places Parts (Model b) place document = absurd (omega arith)
+same-places Parts P place document = absurd (omega arith)
+same-places P (Model b) place document = absurd (omega arith)
+same-places P Parts place document = absurd (omega arith)
+
+same_folder-true : (a b : Folder) → same_folder a b ≡ true → a ≡ b
+same_folder-true a b same =
+    let parts = both (folder_place a == folder_place b) (document_of a == document_of b) same in
+    same-places a b (eqb-true _ _ parts.0) (eqb-true _ _ parts.1)
+
+same_folder-equiv : IsEquivalence same_folder
+same_folder-equiv = and_equiv (on_equiv folder_place nat_eq_equiv) (on_equiv document_of nat_eq_equiv)
 
 pub same_file-true : (a b : FileId) → same_file a b ≡ true → a ≡ b
 unfolding same_file
 same_file-true a b same =
-    let parts = both (folder_place a.folder == folder_place b.folder) (bytes_eq a.name b.name) same in
-    let folder : a.folder ≡ b.folder = same_place a.folder b.folder (eqb-true _ _ parts.0) in
+    let parts = both (same_folder a.folder b.folder) (bytes_eq a.name b.name) same in
+    let folder : a.folder ≡ b.folder = same_folder-true a.folder b.folder parts.0 in
     let name : a.name ≡ b.name = (bytes_eq-Decides a.name b.name).0 parts.1 in
     let first : FileId → Folder → FileId = λ x f. record x { folder = f } in
     let second : FileId → List ℕ → FileId = λ x n. record x { name = n } in
@@ -37,7 +45,7 @@ same_file-true a b same =
 
 pub same_file-equiv : IsEquivalence same_file
 unfolding same_file
-same_file-equiv = and_equiv (on_equiv (λ file. folder_place file.folder) nat_eq_equiv) (on_equiv (λ file. file.name) nat_list_eq_equiv)
+same_file-equiv = and_equiv (on_equiv (λ file. file.folder) same_folder-equiv) (on_equiv (λ file. file.name) nat_list_eq_equiv)
 
 pub file_equality : IsFileEquality
 file_equality = record {

@@ -5,6 +5,7 @@ use Rattle.std.specs.Cmp.{IsEquivalence}
 use Rattle.std.specs.Option.{option_or}
 use Rattle.ld_names.specs.declared.file.FileId.{FileId}
 use Rattle.ld_names.specs.declared.file.Folder.{Folder}
+use Rattle.ld_names.specs.declared.file.Folder.TheVariants.{Model}
 use Rattle.ld_names.specs.Standing.{Known, Map, Text, Present, Absent, Unknown, file_in, find, folders_of, known_map, same_file, standing}
 
 -- the two hold together
@@ -42,10 +43,20 @@ pub record FindsExactly : Type 0 where
 abbrev pub SaysMore : Map → Map → Type 0
 SaysMore known more = (file : FileId) (text : Text) → known file ≡ Some text → more file ≡ Some text
 
--- what was found, or found absent, stays where more is known; and a look-up asks of the files of its name alone
+-- two maps say the same of the file of a name in a folder
+abbrev pub SaySame : Map → Map → List ℕ → Folder → Type 0
+SaySame known other name folder = other (file_in folder name) ≡ known (file_in folder name)
+
+-- what was found, or found absent, stays where more is known; and a look-up asks of the files of its name in its own
+-- folders alone
 pub record FindStays : Type 0 where
   pub more : (known more : Map) (from : Folder) (name : List ℕ) → SaysMore known more → ((folder : Folder) → find known from name ≢ Unknown folder) → find more from name ≡ find known from name
-  pub others : (known other : Map) (from : Folder) (name : List ℕ) → ((folder : Folder) → other (file_in folder name) ≡ known (file_in folder name)) → find other from name ≡ find known from name
+  pub others : (known other : Map) (from : Folder) (name : List ℕ) → All (SaySame known other name) (folders_of from) → find other from name ≡ find known from name
+
+-- a look-up goes through the folder of a document for that document's own files alone
+pub record DocumentsApart : Type 0 where
+  pub present : (known : Map) (from : Folder) (name found : List ℕ) (document : ℕ) → find known from name ≡ Present (file_in (Model document) found) → from ≡ Model document
+  pub unknown : (known : Map) (from : Folder) (name : List ℕ) (document : ℕ) → find known from name ≡ Unknown (Model document) → from ≡ Model document
 
 -- over the standing texts nothing is unknown
 abbrev pub NothingUnknown : Type 0

@@ -11,23 +11,37 @@ use Rattle.ld_names.specs.declared.file.Folder.TheVariants.{Model, Parts, P}
 
 -- the folders in which a file that a file of this folder refers to is looked for, in order
 unfoldable pub folders_of : Folder → List Folder
-folders_of Model = Model ∷ Parts ∷ P ∷ []
+folders_of (Model document) = Model document ∷ Parts ∷ P ∷ []
 folders_of Parts = Parts ∷ P ∷ []
 folders_of P = Parts ∷ P ∷ []
 
--- the place of a folder among the three
+-- the place of a folder: the documents, then the two of the library
 abbrev pub folder_place : Folder → ℕ
-folder_place Model = 0
+folder_place (Model document) = 0
 folder_place Parts = 1
 folder_place P = 2
 
+-- the number of a folder's document, which tells the folders of the first place apart
+abbrev pub document_of : Folder → ℕ
+document_of (Model document) = document
+document_of Parts = 0
+document_of P = 0
+
+-- a folder is the other where its place and its document are
+abbrev pub same_folder : Folder → Folder → Bool
+same_folder folder other = folder_place folder == folder_place other && document_of folder == document_of other
+
+-- folders by place, and then by document
+abbrev pub folder_cmp : Folder → Folder → Ordering
+folder_cmp = then_cmp (on folder_place nat_cmp) (on document_of nat_cmp)
+
 -- a file is the other where its folder and the bytes of its name are
 unfoldable pub same_file : FileId → FileId → Bool
-same_file file other = folder_place file.folder == folder_place other.folder && bytes_eq file.name other.name
+same_file file other = same_folder file.folder other.folder && bytes_eq file.name other.name
 
 -- files by folder, and then by the bytes of their names
 unfoldable pub file_cmp : FileId → FileId → Ordering
-file_cmp = then_cmp (on (λ file. folder_place file.folder) nat_cmp) (on (λ file. file.name) (slice_cmp nat_cmp))
+file_cmp = then_cmp (on (λ file. file.folder) folder_cmp) (on (λ file. file.name) (slice_cmp nat_cmp))
 
 -- the file of a name in a folder
 abbrev pub file_in : Folder → List ℕ → FileId

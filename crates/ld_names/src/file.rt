@@ -4,10 +4,11 @@ ghost use Rattle.ld_names.specs.Standing.{folders_of};
 use crate::name::Name;
 use std::alloc::{AllocError, Global};
 
-/// Where a known file lies: beside the model, or in the library's folders `parts` and `p`.
+/// Where a known file lies: in an open document, by its number from 1 to 16, or in the library's
+/// folders `parts` and `p`.
 #[derive(Clone, Copy, Debug, PartialEq, Eq, PartialOrd, Ord, Hash)]
 pub enum Folder {
-    Model,
+    Model(u8),
     Parts,
     P,
 }
@@ -52,9 +53,9 @@ pub fn order(from: Folder) -> Folders
     ensures behind { drop result.count result.list ≡ replicate (3 - result.count) Folder.P }
 {
     match from {
-        Folder::Model => Folders {
+        Folder::Model(_) => Folders {
             count: 3,
-            list: [Folder::Model, Folder::Parts, Folder::P],
+            list: [from, Folder::Parts, Folder::P],
         },
         Folder::Parts | Folder::P => Folders {
             count: 2,

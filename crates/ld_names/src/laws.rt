@@ -1,5 +1,5 @@
 ghost use Rattle.std.specs.Prelude.{◌≡◌};
-ghost use Rattle.ld_names.specs.Finding.{FindStays, FindsExactly, IsFileEquality, LearningAdds, LearningKeeps, LearningStays, NothingUnknown};
+ghost use Rattle.ld_names.specs.Finding.{DocumentsApart, FindStays, FindsExactly, IsFileEquality, LearningAdds, LearningKeeps, LearningStays, NothingUnknown};
 ghost use Rattle.ld_names.specs.Normal.{AreNames};
 ghost use Rattle.ld_names.specs.Standing.{file_cmp, same_file};
 ghost use Rattle.ld_names.specs.declared.file.FileId.{FileId};
@@ -14,10 +14,12 @@ pub fn file_laws()
     ensures same { IsFileEquality }
 {}
 
-/// What a look-up finds; over the standing texts a name is found or absent.
+/// What a look-up finds, each document's files for itself; over the standing texts a name is found
+/// or absent.
 pub fn lookup_law()
     ensures finds { FindsExactly }
     ensures stays { FindStays }
+    ensures documents { DocumentsApart }
     ensures standing { NothingUnknown }
 {}
 

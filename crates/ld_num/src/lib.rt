@@ -1,4 +1,11 @@
-//! The numbers of LDraw files: numerals, read and printed as whole millionths.
+//! The numbers of LDraw files, as whole millionths within a million units, and points that are
+//! moved by them.
+//!
+//! [`read_dec`] and [`split_dec`] read numerals, [`print_dec`] prints them, and [`print_law`] says
+//! that what is printed is read again. [`place`] moves a point by a placement; [`mirrored`] and
+//! [`singular`] look at its matrix.
+//!
+//! The tests stand in `ld_entry`, in `src/tests/numbers.rt`.
 #![tactic(auto)]
 
 mod dec;

@@ -102,7 +102,7 @@ fn append_entry(
             source,
             points,
         } => {
-            print_head(kind_word(kind), table, colour, into)?;
+            print_head(kind_text(kind), table, colour, into)?;
             into.extend_from_slice(culling_words(certified, clip, winding))?;
             print_points(&points[..kind.points()], into)?;
             end_line(texts, source, into)?;
@@ -154,7 +154,7 @@ fn print_points(points: &[Point], into: &mut Vec<u8>) -> Result<(), AllocError>
     Ok(())
 }
 
-fn kind_word(kind: Kind) -> &'static [u8]
+fn kind_text(kind: Kind) -> &'static [u8]
     ensures { result.now ≡ kind_text kind ++ codes " " }
 {
     match kind {

@@ -1,5 +1,10 @@
 //! The printed texts of an LDraw model's expansion: its entries and steps, its faults and its parts
 //! list; and the findings on a part.
+//!
+//! [`print_entries`], [`print_steps`], [`print_fault`], [`print_parts`] and [`print_findings`]
+//! append lines to a text. [`parts_list`] counts the parts of an answer.
+//!
+//! The tests stand in `ld_cmd`, in `src/tests/printed.rt`.
 #![tactic(auto)]
 
 mod entry;

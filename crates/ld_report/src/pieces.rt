@@ -1,7 +1,5 @@
-ghost use Rattle.std.specs.Prelude.{◌≡◌, ◌++◌, ◌/◌, ◌%◌, ◌<◌, codes, decimal, true, OnOk};
-ghost use Rattle.std.specs.Fmt.{digit_glyph};
+ghost use Rattle.std.specs.Prelude.{◌≡◌, ◌++◌, codes, decimal, OnOk};
 ghost use Rattle.ld_colour.specs.Table.{counting, rgb_in};
-ghost use Rattle.ld_line.specs.Printing.{six_hex};
 ghost use Rattle.ld_texts.specs.Known.{file_at};
 ghost use Rattle.ld_report.specs.Extending.{Extends};
 ghost use Rattle.ld_report.specs.Pieces.{colour_text, folder_text, numbered_text, point_text, rgb_text, source_text};
@@ -9,6 +7,7 @@ ghost use Rattle.ld_report.specs.Pieces.{colour_text, folder_text, numbered_text
 use itoa::Buffer;
 use ld_colour::{Colour, Table};
 use ld_entry::Source;
+use ld_line::six_hex;
 use ld_names::{Folder, TextId};
 use ld_num::{Point, print_dec};
 use ld_texts::Texts;
@@ -63,31 +62,6 @@ pub(crate) fn print_head(
     into.extend_from_slice(word)?;
     print_colour(colour, into)?;
     print_rgb(table.rgb(colour), into)
-}
-
-fn six_hex(value: u32) -> [u8; 6]
-    ensures { result ≡ six_hex value }
-{
-    [
-        hex_digit(value / 0x100000 % 16),
-        hex_digit(value / 0x10000 % 16),
-        hex_digit(value / 0x1000 % 16),
-        hex_digit(value / 0x100 % 16),
-        hex_digit(value / 0x10 % 16),
-        hex_digit(value % 16),
-    ]
-}
-
-#[inline(always)]
-fn hex_digit(digit: u32) -> u8
-    requires { digit < 16 }
-    ensures { result ≡ digit_glyph true digit }
-{
-    if digit < 10 {
-        b'0' + digit as u8
-    } else {
-        b'7' + digit as u8
-    }
 }
 
 #[tactic(auto, using(crate::proofs::Extending::extending))]

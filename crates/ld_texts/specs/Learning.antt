@@ -19,7 +19,7 @@ use Rattle.ld_texts.specs.declared.edit.PrepareError.{PrepareError}
 use Rattle.ld_texts.specs.declared.edit.PrepareError.TheVariants.{Refused, Memory as NoMemory}
 
 -- the known files, how many there may be and how much their texts may weigh; and the memory that is taken: how many
--- more files there is room for, and which names have a place where their numbers are looked up
+-- more files there is room for, and which names have a place for the number of one more file
 pub record Texts : Type 0 where
   pub known : Known
   pub max_files : ℕ

@@ -1,45 +1,54 @@
-ghost use Rattle.std.specs.Prelude.{◌≡◌};
-ghost use Rattle.ld_texts.specs.Inside.Found.{id_in, no_ids, with_id};
+ghost use Rattle.std.specs.Prelude.{◌≡◌, [], ◌∷◌, ◌++◌, IfOk, OnOk, true};
+ghost use Rattle.ld_texts.specs.Inside.Found.{has_room, id_in};
 
 use ld_names::Folder;
+use std::alloc::{AllocError, Global};
 
 // The numbers of the known files of one name, which differ in their folders.
-#[derive(Clone, Copy)]
+#[derive(Drop)]
 pub(crate) struct Ids {
-    model: Option<u32>,
-    parts: Option<u32>,
-    p: Option<u32>,
+    numbers: Vec<(Folder, u32)>,
 }
 
 impl Ids {
-    pub(crate) fn none() -> Ids
-        ensures { result ≡ no_ids }
+    // No number, with room for one.
+    pub(crate) fn new(alloc: Global) -> Result<Ids, AllocError>
+        ensures numbers { IfOk result (λ ids. ids.numbers.items ≡ []) }
+        ensures room { IfOk result (λ ids. has_room ids ≡ true) }
     {
-        Ids {
-            model: None,
-            parts: None,
-            p: None,
-        }
+        let mut numbers = Vec::new(alloc);
+        numbers.reserve(1)?;
+        Ok(Ids { numbers })
     }
 
     pub(crate) fn at(&self, folder: Folder) -> Option<u32>
         ensures { result ≡ id_in folder self.now }
     {
-        match folder {
-            Folder::Model => self.model,
-            Folder::Parts => self.parts,
-            Folder::P => self.p,
+        let mut rest = self.numbers.as_slice();
+        while let [(other, id), more @ ..] = rest {
+            if folder == *other {
+                return Some(*id);
+            }
+            rest = more;
         }
+        None
     }
 
-    pub(crate) fn with(self, folder: Folder, id: u32) -> Ids
-        ensures { result ≡ with_id folder id self }
+    // Takes the memory for one more number.
+    pub(crate) fn reserve(&mut self) -> Result<(), AllocError>
+        ensures numbers { self.new.numbers.items ≡ self.old.numbers.items }
+        ensures room { OnOk result (has_room self.new ≡ true) }
+        ensures kept { has_room self.old ≡ true → has_room self.new ≡ true }
     {
-        let id = Some(id);
-        match folder {
-            Folder::Model => Ids { model: id, ..self },
-            Folder::Parts => Ids { parts: id, ..self },
-            Folder::P => Ids { p: id, ..self },
-        }
+        self.numbers.reserve(1)?;
+        Ok(())
+    }
+
+    // Adds the number of the file in a folder that has none yet.
+    pub(crate) fn add(&mut self, folder: Folder, id: u32)
+        requires { has_room self.old ≡ true }
+        ensures { self.new.numbers.items ≡ self.old.numbers.items ++ (folder, id) ∷ [] }
+    {
+        self.numbers.push((folder, id)).unwrap();
     }
 }

@@ -1,4 +1,10 @@
 //! The files that are known: their numbers, their lines, the limits on them, and edits.
+//!
+//! [`Texts::prepare_file`] and [`Texts::commit`] make a file known. [`Texts::apply`] makes an
+//! [`Edit`] of known files; [`Texts::prepare`] takes its memory first, and [`Texts::commit`] can't
+//! fail.
+//!
+//! The tests stand in `ld_cmd`, in `src/tests/edits.rt`.
 #![tactic(auto)]
 
 mod change;

@@ -41,7 +41,7 @@ impl KnownText {
         ensures { result ≡ lines }
     {
         let part_by_header = match folder {
-            Folder::Model => Some(part_by_header(lines.as_slice())),
+            Folder::Model(_) => Some(part_by_header(lines.as_slice())),
             Folder::Parts | Folder::P => None,
         };
         KnownText {
@@ -105,8 +105,8 @@ impl KnownText {
     {
         match (folder, self.part_by_header) {
             (Folder::Parts | Folder::P, _) => true,
-            (Folder::Model, Some(part)) => part,
-            (Folder::Model, None) => part_by_header(self.lines.as_slice()),
+            (Folder::Model(_), Some(part)) => part,
+            (Folder::Model(_), None) => part_by_header(self.lines.as_slice()),
         }
     }
 

@@ -19,7 +19,7 @@ use std::marker::Model;
 pub struct Texts {
     pub(crate) alloc: Global,
     pub(crate) files: Vec<(FileId, Option<KnownText>)>,
-    // By name; a name has its place here before its file is learnt. Ordered, since whoever writes
+    // By name; there is room here for a file's number before it is learnt. Ordered, since whoever writes
     // the files picks their names.
     pub(crate) ids: BTreeMap<Name, Ids>,
     pub(crate) max_files: u32,
@@ -31,12 +31,12 @@ impl Model for Texts {
     ghost use Rattle.ld_texts.specs.Learning.{Texts};
     ghost use Rattle.std.specs.Prelude.{◌-◌, length};
     ghost use Rattle.std.specs.Vec.{vec_capacity};
-    ghost use Rattle.ld_texts.specs.Inside.Found.{IsIndex, names_of};
+    ghost use Rattle.ld_texts.specs.Inside.Found.{IsIndex, places_of};
     ghost use Rattle.ld_texts.specs.Inside.Kept.{IsWithin};
 
     ghost Value = { Texts };
 
-    ghost view = { λ texts. record { known = texts.files.items; max_files = texts.max_files; max_weight = texts.max_weight; room = vec_capacity texts.files - length texts.files.items; places = names_of texts.ids.entries } };
+    ghost view = { λ texts. record { known = texts.files.items; max_files = texts.max_files; max_weight = texts.max_weight; room = vec_capacity texts.files - length texts.files.items; places = places_of texts.ids.entries } };
 
     ghost invariant = { λ texts. IsWithin texts.files.items texts.weight texts.max_files texts.max_weight × IsIndex texts.files.items texts.ids.entries };
 }
@@ -174,15 +174,16 @@ impl Texts {
         Ok(Some(KnownText::new(folder, lines, weight)))
     }
 
-    // Gives the name a place for the numbers of its files.
+    // Gives the name a place for the number of one more file.
     fn give_place(&mut self, name: &Name) -> Result<(), AllocError>
         ensures place { OnOk result (has_place self.new name.now ≡ true) }
         ensures same { KeepsTexts self.old self.new }
     {
-        if self.ids.contains_key(name) {
-            return Ok(());
+        if let Some(ids) = self.ids.get_mut(name) {
+            return ids.reserve();
         }
-        self.ids.insert(name.copy(self.alloc)?, Ids::none())?;
+        self.ids
+            .insert(name.copy(self.alloc)?, Ids::new(self.alloc)?)?;
         Ok(())
     }
 
@@ -213,7 +214,7 @@ impl Texts {
         let id = self.known();
         self.weight += weigh_text(&text);
         let ids = self.ids.get_mut(&file.name).unwrap();
-        *ids = ids.with(file.folder, id);
+        ids.add(file.folder, id);
         self.files.push((file, text)).unwrap();
         Change {
             first: (TextId(id), Turned::Learnt),

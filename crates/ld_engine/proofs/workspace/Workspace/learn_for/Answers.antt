@@ -25,8 +25,8 @@ loop-going-init g c =
       inside = subst (λ (p : Passed). IsInside known p.texts) (sym c.in_ok-going.ensures) (begun-inside c.number_law.ensures c.learning_law.ensures known root c.in_ok-id.id.0 e.known);
       rest = λ more. begun-rest c.number_law.ensures c.learning_law.ensures known root c.in_ok-id.id.0 e.known more ∙ ap (left (known ++ more)) (sym c.in_ok-going.ensures);
       told = e.told;
-      same = e.same;
-      never_falls = e.never_falls;
+      same = e.shelf.same;
+      never_falls = e.shelf.never_falls;
     }
 
 pub loop-going-smaller : goal.loop-going-smaller
@@ -61,8 +61,8 @@ loop-going-preserved g c =
       inside = subst (λ k. IsInside k c.next_wanted.new.self.texts) (sym is) (inside-behind mid (file, text) c.next_wanted.new.self.texts inside);
       rest = λ more. ap (λ k. reach (k ++ more) root) is ∙ rest-behind mid root c.loop-going.going i.rest c.next_wanted.new.self file text goes more ∙ ap (λ k. left (k ++ more) c.next_wanted.new.self) (sym is);
       told = told-more c.args.self.now.limits (wanted_for root) c.args.self.now.texts.known mid new (g.S.Shelf.files c.args.shelf.now) c.in_default-learn_file.field-0 i.told step';
-      same = e.same ∙ i.same;
-      never_falls = omega (arith, e.never_falls, i.never_falls);
+      same = e.shelf.same ∙ i.same;
+      never_falls = omega (arith, e.shelf.never_falls, i.never_falls);
     }
 
 pub returns-in-Err-clause-stops : goal.returns-in-Err-clause-stops

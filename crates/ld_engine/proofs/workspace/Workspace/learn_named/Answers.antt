@@ -24,8 +24,8 @@ loop-file-preserved g c =
       limits = e.limits ∙ i.limits;
       learns = learns-more wants old mid new file e.learns.0 i.learns next e.learns.1.known;
       told = told-more limits wants old mid new (g.S.Shelf.files c.args.shelf.now) c.in_default-learn_copy.field-0 i.told step';
-      same = e.same ∙ i.same;
-      never_falls = omega (arith, e.never_falls, i.never_falls);
+      same = e.shelf.same ∙ i.same;
+      never_falls = omega (arith, e.shelf.never_falls, i.never_falls);
     }
 
 pub returns-in-Err-clause-told : goal.returns-in-Err-clause-told
