@@ -5,7 +5,7 @@ use Rattle.ld_names.specs.declared.file.Folder.TheVariants.{Model}
 use Rattle.ld_check.specs.declared.finding.Finding.{Finding}
 
 abbrev pub file_of : List ℕ → FileId
-file_of name = record { folder = Model; name = name }
+file_of name = record { folder = Model 1; name = name }
 
 abbrev pub found_at : ℕ → ℕ → Finding
 found_at line rule = record { line = line; rule = rule }

@@ -1,5 +1,5 @@
 // The first five lines of a part (Official Library Header Specification).
-ghost use Rattle.std.specs.Prelude.{◌≡◌, ◌++◌, ◌==◌, ◌<◌, position, length, IfOk, IfSome, MatchOption, OnOk, Some, drop, is_some};
+ghost use Rattle.std.specs.Prelude.{◌≡◌, ◌≢◌, ◌++◌, ◌==◌, ◌<◌, position, length, IfOk, IfSome, MatchOption, None, OnErr, OnOk, Some, drop, is_some};
 ghost use Rattle.ld_line.specs.Field.{after_fields, fields};
 ghost use Rattle.ld_line.specs.Reading.{line_of};
 ghost use Rattle.ld_names.specs.Normal.{normal_of};
@@ -85,7 +85,8 @@ fn check_name(
 }
 
 fn stated_name(alloc: Global, line: &[u8]) -> Result<Option<Name>, AllocError>
-    ensures { IfOk result (λ name. name ≡ stated_name line.now) }
+    ensures name { IfOk result (λ name. name ≡ stated_name line.now) }
+    ensures memory { OnErr result (stated_name line.now ≢ None) }
 {
     match behind(line, b"Name:") {
         Some(text) => normal_form(alloc, text),
@@ -94,7 +95,8 @@ fn stated_name(alloc: Global, line: &[u8]) -> Result<Option<Name>, AllocError>
 }
 
 fn normal_form(alloc: Global, text: &[u8]) -> Result<Option<Name>, AllocError>
-    ensures { IfOk result (λ name. name ≡ normal_form (normal_of text.now)) }
+    ensures name { IfOk result (λ name. name ≡ normal_form (normal_of text.now)) }
+    ensures memory { OnErr result (normal_form (normal_of text.now) ≢ None) }
 {
     match normal(alloc, text) {
         Ok(name) => Ok(Some(name)),

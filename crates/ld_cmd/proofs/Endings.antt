@@ -1,5 +1,6 @@
 -- Complete runs, runs that end with the usage line, and runs that are stopped before anything is put.
 use Rattle.std.proofs.Common.{◌≡◌, ◌∙◌, ℕ, zero, List, [], ◌∷◌, Bool, true, false, is_some, Option, Some, None, IfSome, refl, ap, sym, subst, inl, inr, append-nil, arith}
+use Rattle.std.specs.List.{concat}
 use Rattle.ld_io.specs.Shelf.{Files}
 use Rattle.ld_cmd.specs.declared.status.Status.{Status}
 use Rattle.ld_cmd.specs.declared.status.Status.TheVariants.{Done, Faulted, Usage, Input, ReadFault, WriteFault, Memory, Limit}
@@ -56,12 +57,14 @@ usage-told words None is_command is lacks = tt
 usage-told words (Some files) is_command is lacks = ap (λ found. commanded found files) (sym (no-intent is_command (intent_of words) is lacks))
 
 -- an output of one piece is put where it is not empty
-pub unput-told : {A : Type 0} (old new : A) (text : List ℕ) (status : Status) (wanted : Files → Output) (files : Option Files) → IfSome files (λ f. one_piece text status ≡ wanted f) → (text ≡ [] → new ≡ old) → IfSome files (λ f. (wanted f).pieces ≡ [] ∷ [] → new ≡ old)
+pub unput-told : {A : Type 0} (old new : A) (text : List ℕ) (status : Status) (wanted : Files → Output) (files : Option Files) → IfSome files (λ f. one_piece text status ≡ wanted f) → (text ≡ [] → new ≡ old) → IfSome files (λ f. concat (wanted f).pieces ≡ [] → new ≡ old)
 unput-told old new text status wanted None is stays = tt
-unput-told old new text status wanted (Some files) is stays = λ empty. stays (first-of (ap (λ (out : Output). out.pieces) is ∙ empty))
-  where
-    first-of : text ∷ [] ≡ [] ∷ [] → text ≡ []
-    first-of same = cc
+unput-told old new text status wanted (Some files) is stays = λ empty. stays (sym (append-nil text) ∙ ap (λ (out : Output). concat out.pieces) is ∙ empty)
+
+-- so is another that is the same
+pub unput-same : {A : Type 0} (old new : A) (made wanted : Files → Output) (files : Option Files) → IfSome files (λ f. made f ≡ wanted f) → IfSome files (λ f. concat (made f).pieces ≡ [] → new ≡ old) → IfSome files (λ f. concat (wanted f).pieces ≡ [] → new ≡ old)
+unput-same old new made wanted None is stays = tt
+unput-same old new made wanted (Some files) is stays = λ empty. stays (ap (λ (out : Output). concat out.pieces) is ∙ empty)
 
 -- ---- Words in the grammar.
 
@@ -103,6 +106,6 @@ pub none-in_front : (before : Option (List ℕ)) → IfSome before (λ b. Stands
 none-in_front None = tt
 none-in_front (Some before) = ([], ap Some (sym (append-nil before)))
 
-pub none-put : {A : Type 0} (out : A) (wanted : Files → Output) (files : Option Files) → IfSome files (λ f. (wanted f).pieces ≡ [] ∷ [] → out ≡ out)
+pub none-put : {A : Type 0} (out : A) (wanted : Files → Output) (files : Option Files) → IfSome files (λ f. concat (wanted f).pieces ≡ [] → out ≡ out)
 none-put out wanted None = tt
 none-put out wanted (Some files) = λ empty. refl

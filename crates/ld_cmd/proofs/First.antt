@@ -1,13 +1,16 @@
 -- The main model is the first of the known texts, whatever else is learnt.
-use Rattle.std.proofs.Common.{◌≡◌, ◌∷◌, ◌*◌, ◌+◌, ◌≤◌, ◌<◌, ◌^◌, ℕ, List, [], length, Some, None, ap, arith, ◌∙◌}
+use Rattle.std.proofs.Common.{◌≡◌, ◌∷◌, ◌*◌, ◌+◌, ◌≤◌, ◌<◌, ◌^◌, ℕ, List, [], length, Bor, Option, Some, None, option_map, ap, refl, arith, sym, ◌∙◌}
+use Rattle.std.specs.Option.{IsSome, option_copied}
 use Rattle.std.proofs.lemmas.List.Sums.{sum_by-cons}
 use Rattle.ld_names.specs.Standing.{Known, Text, known_map}
 use Rattle.ld_names.specs.declared.file.FileId.{FileId}
-use Rattle.ld_texts.specs.Known.{weight_of, weight_of_lines, weight_of_text}
+use Rattle.ld_texts.specs.Known.{lines_at, weight_of, weight_of_lines, weight_of_text}
+use Rattle.ld_texts.specs.Laws.{NumbersAgree}
 use Rattle.ld_engine.specs.Laws.{MainIsFirst}
 use Rattle.ld_engine.specs.Learning.{LearnsFor, wanted_for}
 use Rattle.ld_engine.specs.Loading.{BeginsWith}
 use Rattle.ld_cmd.specs.Querying.{IsFirst}
+use Rattle.ld_cmd.proofs.Leaves.{just}
 
 -- each line weighs 32 and more
 lines-weigh : (lines : List (List ℕ)) → 32 * length lines ≤ weight_of_lines lines
@@ -25,3 +28,13 @@ first-stays law root main old new first learns = (first.0, law.grown (wanted_for
 
 pub first-not-absent : (law : MainIsFirst) (main : FileId) (known : Known) → IsFirst main known → known_map known main ≡ Some None → ⊥
 first-not-absent law main known first absent = let there = (law.says main first.0 known first.1).1 in absurd (cc)
+
+pub copied-some : {A : Type 0} (found : Option (Bor A)) (value : A) → option_copied found ≡ Some value → IsSome found
+copied-some None value is = absurd (cc)
+copied-some (Some found) value is = refl
+
+-- its lines are those of text 0
+pub first-lines : (law : MainIsFirst) (numbers : NumbersAgree) (main : FileId) (lines : List (List ℕ)) (known : Known) → BeginsWith main lines known → lines_at known 0 ≡ Some lines
+first-lines law numbers main lines known begins =
+    let says = law.says main lines known begins in
+    just (lines_at known 0) (Some lines) (ap (option_map (lines_at known)) (sym says.0) ∙ sym (numbers.map known main) ∙ says.1)

@@ -1,11 +1,13 @@
-pub mod Bounds
 mod Bricks
 mod Ended
-pub mod Endings
-pub mod First
-pub mod Leaves
-pub mod Opening
 mod Queries
 mod SameSaid
+pub mod Bounds
+pub mod Endings
+pub mod First
+pub mod HaveBytes
+pub mod Leaves
+pub mod Opening
+pub mod Risen
 pub mod Sizes
 pub mod Steps

@@ -1,5 +1,9 @@
 -- What the code's values say.
-use Rattle.std.specs.Prelude.{◌≡◌, Option, Some, None, Result, Ok, Err, ⊤}
+use Rattle.std.specs.Prelude.{◌≡◌, ℕ, List, Option, Some, None, Result, Ok, Err, ⊤}
+use Rattle.ld_io.specs.Shelf.{FetchTold}
+use Rattle.ld_io.specs.declared.shelf.Fetched.{Fetched}
+use Rattle.ld_io.specs.declared.shelf.FetchError.{FetchError}
+use Rattle.ld_cmd.specs.Output.{file_bytes, input}
 use Rattle.ld_cmd.specs.Written.{Output, one_piece, stop_text}
 use Rattle.ld_cmd.specs.Querying.{Queried, Stopped, NoRoot, FirstFault, Answered}
 use Rattle.ld_engine.specs.declared.asking.Answer.{Answer}
@@ -36,3 +40,7 @@ Gives view wanted (Ok value) = wanted ≡ Ok (view value)
 Gives view wanted (Err (Decided made)) = wanted ≡ Err (output_of made)
 Gives view wanted (Err ReadFault) = ⊤
 Gives view wanted (Err Memory) = ⊤
+
+-- what a fetch gave of a word's file, whatever the shelf has
+abbrev pub GivesInput : List ℕ → Result Fetched FetchError → List ℕ → Result (List ℕ) Stop → Type 0
+GivesInput word fetched bytes result = (file : Option (List ℕ)) → FetchTold file file_bytes fetched bytes → Gives (λ all. all) (input word file) result

@@ -98,8 +98,8 @@ loaded_by (Err passed) = Err (one_piece (over_text passed) status.Limit)
 
 -- the main model is the first text, and there always is one
 abbrev pub main_file : List ℕ → Blocks → FileId
-main_file own [] = file_in Model own
-main_file own (text ∷ texts) = file_in Model text.0
+main_file own [] = file_in (Model 1) own
+main_file own (text ∷ texts) = file_in (Model 1) text.0
 
 -- ---- 5. Queries.
 

@@ -1,13 +1,13 @@
 // What is found in a model's text.
 ghost use Rattle.std.specs.Prelude.{◌≡◌, ◌≢◌, ◌≤◌, ◌+◌, ◌<◌, ◌^◌, ◌==◌, ℕ, List, Err, IfOk, IfSome, None, if◌then◌else◌, length};
-ghost use Rattle.ld_io.specs.Faults.{HasRisen};
+ghost use Rattle.ld_io.specs.Shelf.{IsOnlyRead};
 ghost use Rattle.ld_check.specs.Findings.{findings_of};
-ghost use Rattle.ld_mpd.specs.Blocks.{IsText, text_of};
 ghost use Rattle.ld_engine.specs.Limits.{bad_limit};
 ghost use Rattle.ld_engine.specs.Loading.{BeginsWith};
 ghost use Rattle.ld_words.specs.Shown.{options_shown};
 ghost use Rattle.ld_cmd.specs.Ending.{IsWhole};
 ghost use Rattle.ld_cmd.specs.Made.{Makes, output_of};
+ghost use Rattle.ld_cmd.specs.Querying.{IsFirst};
 ghost use Rattle.ld_cmd.specs.Output.{check_output, checked_output, file_bytes, found_output, limits_of};
 
 use crate::inputs::{read_input, read_table};
@@ -16,11 +16,11 @@ use crate::make::own_name;
 use crate::model::{load_model, open_workspace};
 use crate::status::Status;
 use ld_check::{Finding, check};
-use ld_engine::Workspace;
+use ld_engine::{Workspace, first_law};
 use ld_io::Shelf;
-use ld_mpd::text_of;
-use ld_names::{Bytes, FileId, Name};
+use ld_names::{Bytes, FileId, Name, TextId};
 use ld_report::print_findings;
+use ld_texts::number_law;
 use ld_words::Options;
 use std::alloc::{AllocError, Global};
 
@@ -32,9 +32,7 @@ pub(crate) fn check_file<S: Shelf>(
 ) -> Result<Made, Stop>
     requires bounds { bad_limit (limits_of (options_shown options.now)) ≡ None }
     ensures told { IfSome (S.files shelf.old) (λ files. Makes (check_output file.now (options_shown options.now) files) result) }
-    ensures cause { result ≡ Err Stop.ReadFault → HasRisen (S.faults shelf.old) (S.faults shelf.new) }
-    ensures same { S.files shelf.new ≡ S.files shelf.old }
-    ensures never_falls { S.faults shelf.old ≤ S.faults shelf.new }
+    ensures shelf { IsOnlyRead (S.files shelf.old) (S.files shelf.new) (S.faults shelf.old) (S.faults shelf.new) (result ≡ Err Stop.ReadFault) }
 {
     let bytes = match read_input(alloc, file.as_bytes(), shelf) {
         Ok(bytes) => bytes,
@@ -58,26 +56,24 @@ fn check_model(alloc: Global, options: &Options, own: &Name, bytes: &[u8]) -> Re
 {
     let mut workspace = open_workspace(alloc, options)?;
     match load_model(alloc, &mut workspace, own, bytes) {
-        Ok(main) => Ok(check_loaded(alloc, &workspace, &main, bytes)?),
+        Ok(main) => Ok(check_loaded(alloc, &workspace, &main)?),
         Err(stop) => Err(stop),
     }
 }
 
 // What is found in the text of a model that is loaded.
-fn check_loaded(
-    alloc: Global,
-    workspace: &Workspace,
-    main: &FileId,
-    bytes: &[u8],
-) -> Result<Made, AllocError>
+fn check_loaded(alloc: Global, workspace: &Workspace, main: &FileId) -> Result<Made, AllocError>
     requires weight { workspace.now.limits.total_weight ≡ 268435456 }
-    requires first { (lines : List (List ℕ)) → IsText lines bytes.now → BeginsWith main.now lines workspace.now.texts.known }
-    ensures { (own : List ℕ) → IfOk result (λ made. output_of made ≡ found_output (findings_of main.now (text_of own bytes.now))) }
+    requires first { IsFirst main.now workspace.now.texts.known }
+    ensures { (lines : List (List ℕ)) → BeginsWith main.now lines workspace.now.texts.known → IfOk result (λ made. output_of made ≡ found_output (findings_of main.now lines)) }
 {
+    first_law();
+    number_law();
+    let texts = workspace.texts();
     // Its clauses say how much the lines may weigh, and so how many there may be.
-    let _weight = workspace.texts().weight();
-    let lines = text_of(alloc, bytes)?;
-    found(alloc, main, lines.as_slice())
+    let _weight = texts.weight();
+    // The main model is the first text.
+    found(alloc, main, texts.lines(TextId(0)).unwrap())
 }
 
 fn found(alloc: Global, file: &FileId, lines: &[Bytes]) -> Result<Made, AllocError>

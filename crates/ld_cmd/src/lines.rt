@@ -1,7 +1,7 @@
 // Lines that take the place of an answer.
 ghost use Rattle.std.specs.Prelude.{◌≡◌, ◌≢◌, ◌++◌, IfOk, codes, decimal};
 ghost use Rattle.ld_engine.specs.Learning.{TooBig};
-ghost use Rattle.ld_report.specs.Pieces.{file_text, folder_text};
+ghost use Rattle.ld_report.specs.Pieces.{file_text};
 ghost use Rattle.ld_cmd.specs.Ending.{IsWhole};
 ghost use Rattle.ld_cmd.specs.Made.{Stops};
 ghost use Rattle.ld_cmd.specs.Written.{one_piece, over_text, stop_text};
@@ -10,7 +10,8 @@ ghost use Rattle.ld_cmd.specs.declared.status.Status.TheVariants.{Limit, Usage};
 use crate::made::{Made, Stop};
 use crate::status::Status;
 use itoa::Buffer;
-use ld_names::{FileId, Folder};
+use ld_names::FileId;
+use ld_report::printed_file;
 use ld_texts::Over;
 use std::alloc::{AllocError, Global};
 
@@ -63,26 +64,8 @@ pub(crate) fn about_file(alloc: Global, file: &FileId) -> Stop
     ensures decided { Stops (one_piece (stop_text (TooBig file.now)) Limit) result }
     ensures no_fault { result ≢ Stop.ReadFault }
 {
-    match name_of(alloc, file) {
+    match printed_file(alloc, file) {
         Ok(name) => about_word(alloc, b"toobig ", name.as_slice(), Status::Limit),
         Err(_) => Stop::Memory,
-    }
-}
-
-fn name_of(alloc: Global, file: &FileId) -> Result<Vec<u8>, AllocError>
-    ensures { IfOk result (λ name. name.items ≡ file_text file.now) }
-{
-    let mut name = Vec::from_slice(alloc, folder_word(file.folder))?;
-    name.extend_from_slice(file.name.bytes())?;
-    Ok(name)
-}
-
-fn folder_word(folder: Folder) -> &'static [u8]
-    ensures { result.now ≡ folder_text folder }
-{
-    match folder {
-        Folder::Model => b"model/",
-        Folder::Parts => b"parts/",
-        Folder::P => b"p/",
     }
 }

@@ -1,12 +1,12 @@
 // The output of the words.
-ghost use Rattle.std.specs.Prelude.{◌≡◌, ◌≤◌, Err, IsSome, List, ℕ, Option, Result, IfOk, IfSome, None, Some, codes, map, string_bytes};
-ghost use Rattle.ld_io.specs.Faults.{HasRisen};
+ghost use Rattle.std.specs.Prelude.{◌≡◌, ◌≤◌, ◌↔◌, Err, IsSome, List, ℕ, Option, Result, IfOk, IfSome, None, OnOk, Some, codes, map, string_bytes};
+ghost use Rattle.std.specs.Result.{IsErr};
 ghost use Rattle.ld_names.specs.Normal.{GivesName};
 ghost use Rattle.ld_names.specs.declared.name.NameError.{NameError};
 ghost use Rattle.ld_engine.specs.Limits.{bad_limit};
 ghost use Rattle.ld_words.specs.Shown.{intent_shown, options_shown, task_shown};
 ghost use Rattle.ld_words.specs.Words.{IsBounded, intent_of};
-ghost use Rattle.ld_io.specs.Shelf.{Files};
+ghost use Rattle.ld_io.specs.Shelf.{Files, IsOnlyRead};
 ghost use Rattle.ld_cmd.specs.Ending.{PutsOnce, PutsOnceFor};
 ghost use Rattle.ld_cmd.specs.Made.{Makes};
 ghost use Rattle.ld_cmd.specs.Replying.{IsNoScript, OpensSession, Works};
@@ -37,9 +37,7 @@ pub(crate) fn make_work<S: Shelf>(
     requires in_grammar { IsSome (intent_of (map string_bytes words.now)) }
     ensures told { IfSome (S.files shelf.old) (λ files. Works (output (map string_bytes words.now) files) files result) }
     ensures once { PutsOnce (intent_of (map string_bytes words.now)) → IsNoScript result }
-    ensures cause { result ≡ Err Stop.ReadFault → HasRisen (S.faults shelf.old) (S.faults shelf.new) }
-    ensures same { S.files shelf.new ≡ S.files shelf.old }
-    ensures never_falls { S.faults shelf.old ≤ S.faults shelf.new }
+    ensures shelf { IsOnlyRead (S.files shelf.old) (S.files shelf.new) (S.faults shelf.old) (S.faults shelf.new) (result ≡ Err Stop.ReadFault) }
 {
     let given = given_words(alloc, words)?;
     let request = read_request(alloc, words, given.as_slice())?;
@@ -52,9 +50,7 @@ fn make_request<S: Shelf>(alloc: Global, request: &Request, shelf: &mut S) -> Re
     ensures told { IfSome (S.files shelf.old)
         (λ files. Works (task_output (task_shown request.now.task) (options_shown request.now.options) files) files result) }
     ensures once { PutsOnceFor (task_shown request.now.task) → IsNoScript result }
-    ensures cause { result ≡ Err Stop.ReadFault → HasRisen (S.faults shelf.old) (S.faults shelf.new) }
-    ensures same { S.files shelf.new ≡ S.files shelf.old }
-    ensures never_falls { S.faults shelf.old ≤ S.faults shelf.new }
+    ensures shelf { IsOnlyRead (S.files shelf.old) (S.files shelf.new) (S.faults shelf.old) (S.faults shelf.new) (result ≡ Err Stop.ReadFault) }
 {
     let options = &request.options;
     match request.task {
@@ -96,9 +92,7 @@ fn show_listing<S: Shelf>(
 ) -> Result<Made, Stop>
     requires bounds { bad_limit (limits_of (options_shown options.now)) ≡ None }
     ensures told { IfSome (S.files shelf.old) (λ files. Makes (form_output (form_of what) file.now (options_shown options.now) files) result) }
-    ensures cause { result ≡ Err Stop.ReadFault → HasRisen (S.faults shelf.old) (S.faults shelf.new) }
-    ensures same { S.files shelf.new ≡ S.files shelf.old }
-    ensures never_falls { S.faults shelf.old ≤ S.faults shelf.new }
+    ensures shelf { IsOnlyRead (S.files shelf.old) (S.files shelf.new) (S.faults shelf.old) (S.faults shelf.new) (result ≡ Err Stop.ReadFault) }
 {
     match form_of(what) {
         Some(form) => show_file(alloc, form, file, options, shelf),
@@ -116,9 +110,7 @@ fn show_file<S: Shelf>(
 ) -> Result<Made, Stop>
     requires bounds { bad_limit (limits_of (options_shown options.now)) ≡ None }
     ensures told { IfSome (S.files shelf.old) (λ files. Makes (shown_output what file.now (options_shown options.now) files) result) }
-    ensures cause { result ≡ Err Stop.ReadFault → HasRisen (S.faults shelf.old) (S.faults shelf.new) }
-    ensures same { S.files shelf.new ≡ S.files shelf.old }
-    ensures never_falls { S.faults shelf.old ≤ S.faults shelf.new }
+    ensures shelf { IsOnlyRead (S.files shelf.old) (S.files shelf.new) (S.faults shelf.old) (S.faults shelf.new) (result ≡ Err Stop.ReadFault) }
 {
     let bytes = match read_input(alloc, file.as_bytes(), shelf) {
         Ok(bytes) => bytes,
@@ -142,9 +134,7 @@ fn show_generated<S: Shelf>(
     requires bounds { bad_limit (limits_of (options_shown options.now)) ≡ None }
     requires count { count ≤ 100000 }
     ensures told { IfSome (S.files shelf.old) (λ files. Makes (generated_output count (options_shown options.now) files) result) }
-    ensures cause { result ≡ Err Stop.ReadFault → HasRisen (S.faults shelf.old) (S.faults shelf.new) }
-    ensures same { S.files shelf.new ≡ S.files shelf.old }
-    ensures never_falls { S.faults shelf.old ≤ S.faults shelf.new }
+    ensures shelf { IsOnlyRead (S.files shelf.old) (S.files shelf.new) (S.faults shelf.old) (S.faults shelf.new) (result ≡ Err Stop.ReadFault) }
 {
     let table = match read_table(alloc, options.colours, shelf) {
         Ok(table) => table,
@@ -187,10 +177,19 @@ pub(crate) fn own_name(alloc: Global, word: &[u8]) -> Result<Name, AllocError>
 fn default_name(alloc: Global, error: NameError) -> Result<Name, AllocError>
     ensures { (wanted : Result (List ℕ) NameError) → GivesName (Err error) wanted → IfOk result (λ name. name ≡ name_or_default wanted) }
 {
+    unless_memory(error)?;
+    model_name(alloc)
+}
+
+// A bad name has a default, want of memory has none.
+fn unless_memory(error: NameError) -> Result<(), AllocError>
+    ensures named { (wanted : Result (List ℕ) NameError) → GivesName (Err error) wanted → OnOk result (name_or_default wanted ≡ codes "model.ldr") }
+    ensures memory { IsErr result ↔ error ≡ NameError.Memory }
+{
     match error {
         NameError::Memory => Err(AllocError),
         NameError::Empty | NameError::TooLong | NameError::NotRelative | NameError::Control => {
-            model_name(alloc)
+            Ok(())
         }
     }
 }

@@ -1,6 +1,6 @@
 // A model: its texts are known, and its main model is asked for.
-ghost use Rattle.std.specs.Prelude.{◌≡◌, ◌≢◌, ◌≤◌, ◌<◌, ◌^◌, [], Ok, Err, IfOk, IfSome, Some, length, None};
-ghost use Rattle.ld_io.specs.Faults.{HasRisen};
+ghost use Rattle.std.specs.Prelude.{◌≡◌, ◌≢◌, ◌≤◌, ◌<◌, ◌^◌, ◌↔◌, [], Ok, Err, IfOk, IfSome, Some, length, None};
+ghost use Rattle.ld_io.specs.Shelf.{IsOnlyRead};
 ghost use Rattle.ld_mpd.specs.Blocks.{text_blocks, text_of};
 ghost use Rattle.ld_colour.specs.Table.{counting};
 ghost use Rattle.ld_engine.specs.Limits.{bad_limit};
@@ -62,9 +62,7 @@ pub(crate) fn show_model<S: Shelf>(
     requires bounds { bad_limit (limits_of (options_shown options.now)) ≡ None }
     requires size { length bytes.now ≤ file_bytes }
     ensures told { IfSome (S.files shelf.old) (λ files. Makes (model_output (answered_output what (counting table.now)) (options_shown options.now) files own.now bytes.now) result) }
-    ensures cause { result ≡ Err Stop.ReadFault → HasRisen (S.faults shelf.old) (S.faults shelf.new) }
-    ensures same { S.files shelf.new ≡ S.files shelf.old }
-    ensures never_falls { S.faults shelf.old ≤ S.faults shelf.new }
+    ensures shelf { IsOnlyRead (S.files shelf.old) (S.files shelf.new) (S.faults shelf.old) (S.faults shelf.new) (result ≡ Err Stop.ReadFault) }
 {
     let mut workspace = open_workspace(alloc, options)?;
     match load_model(alloc, &mut workspace, own, bytes) {
@@ -121,9 +119,7 @@ fn show_main<S: Shelf>(
     requires limits { workspace.old.limits ≡ limits_of (options_shown options.now) }
     requires first { IsFirst main.now workspace.old.texts.known }
     ensures told { IfSome (S.files shelf.old) (λ files. Makes (main_output (answered_output what (counting table.now)) (options_shown options.now) files main.now workspace.old.texts.known) result) }
-    ensures cause { result ≡ Err Stop.ReadFault → HasRisen (S.faults shelf.old) (S.faults shelf.new) }
-    ensures same { S.files shelf.new ≡ S.files shelf.old }
-    ensures never_falls { S.faults shelf.old ≤ S.faults shelf.new }
+    ensures shelf { IsOnlyRead (S.files shelf.old) (S.files shelf.new) (S.faults shelf.old) (S.faults shelf.new) (result ≡ Err Stop.ReadFault) }
 {
     first_law();
     // Read here, so that the limit on entries is seen to be below 2^32.
@@ -143,7 +139,7 @@ fn show_answer(
     requires steps { IfOk answer (λ answer. AreSteps (length answer.entries) answer.steps) }
     requires root { answer ≢ Err AnswerError.NoRoot }
     ensures shown { (wanted : Output) → IfSome (answer_queried answer) (λ given. queried_output (answered_output what (counting table.now)) texts.now.known given ≡ Some wanted) → Makes wanted result }
-    ensures fault { result ≡ Err Stop.ReadFault → answer ≡ Err AnswerError.ReadFault }
+    ensures fault { result ≡ Err Stop.ReadFault ↔ answer ≡ Err AnswerError.ReadFault }
 {
     match answer {
         Ok(answer) => make_answer(alloc, what, texts, table, &answer),

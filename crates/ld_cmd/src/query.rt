@@ -1,6 +1,6 @@
 // Questions to the workspace, over the files of a shelf.
 ghost use Rattle.std.specs.Prelude.{◌≡◌, ◌≤◌, Err, IfOk, IfSome, None, Some, length};
-ghost use Rattle.ld_io.specs.Faults.{HasRisen};
+ghost use Rattle.ld_io.specs.Shelf.{IsOnlyRead};
 ghost use Rattle.ld_engine.specs.declared.asking.AnswerError.TheVariants.{NoRoot, ReadFault};
 ghost use Rattle.ld_names.specs.Standing.{known_map};
 ghost use Rattle.ld_engine.specs.Learning.{LearnsFor};
@@ -30,9 +30,7 @@ pub(crate) fn ask<S: Shelf>(
         (λ given. Queries workspace.old.limits files root.now colour workspace.old.texts.known workspace.new.texts.known given)) }
     ensures size { IfOk result (λ answer. length answer.entries ≤ workspace.old.limits.entries) }
     ensures steps { IfOk result (λ answer. AreSteps (length answer.entries) answer.steps) }
-    ensures cause { result ≡ Err ReadFault → HasRisen (S.faults shelf.old) (S.faults shelf.new) }
-    ensures same { S.files shelf.new ≡ S.files shelf.old }
-    ensures never_falls { S.faults shelf.old ≤ S.faults shelf.new }
+    ensures shelf { IsOnlyRead (S.files shelf.old) (S.files shelf.new) (S.faults shelf.old) (S.faults shelf.new) (result ≡ Err ReadFault) }
 {
     root_law();
     steps_law();
@@ -52,9 +50,7 @@ pub(crate) fn change<S: Shelf>(
     ensures limits { workspace.new.limits ≡ workspace.old.limits }
     ensures told { IfSome (S.files shelf.old) (λ files. IfSome (edit_given workspace.new.texts.known result)
         (λ given. given ≡ edit_step workspace.old.limits files workspace.old.texts.known edit.now)) }
-    ensures cause { result ≡ Err EditError.ReadFault → HasRisen (S.faults shelf.old) (S.faults shelf.new) }
-    ensures same { S.files shelf.new ≡ S.files shelf.old }
-    ensures never_falls { S.faults shelf.old ≤ S.faults shelf.new }
+    ensures shelf { IsOnlyRead (S.files shelf.old) (S.files shelf.new) (S.faults shelf.old) (S.faults shelf.new) (result ≡ Err EditError.ReadFault) }
 {
     workspace.edit(shelf, edit)
 }

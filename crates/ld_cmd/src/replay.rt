@@ -1,6 +1,8 @@
 // A script is answered: each reply is put as soon as it is made.
-ghost use Rattle.std.specs.Prelude.{◌≡◌, ◌≢◌, ◌≤◌, ◌∷◌, ℕ, List, Option, Err, IfErr, IfSome, OnOk, is_some};
+ghost use Rattle.std.specs.Prelude.{◌≡◌, ◌≢◌, ◌≤◌, ◌∷◌, [], ℕ, List, Option, Err, IfErr, IfSome, OnOk, is_some};
+ghost use Rattle.std.specs.List.{concat};
 ghost use Rattle.ld_io.specs.Faults.{HasRisen};
+ghost use Rattle.ld_io.specs.Shelf.{IsOnlyRead};
 ghost use Rattle.ld_script.specs.declared.command.Command.{Command};
 ghost use Rattle.ld_cmd.specs.Ending.{EndsAs, StandsInFront, Takes};
 ghost use Rattle.ld_cmd.specs.Leaving.{Leaves};
@@ -28,12 +30,12 @@ pub(crate) fn play<S: Shelf, K: Sink>(
     ensures taken { IfSome (S.files shelf.old) (λ files. IfSome (K.taken out.old)
         (λ before. Takes result (session_output session files).pieces before (K.taken out.new))) }
     ensures in_front { IfSome (K.taken out.old) (λ before. StandsInFront before (K.taken out.new)) }
+    // Every reply has bytes, so nothing is put only where there is no command.
+    ensures unput { IfSome (S.files shelf.old) (λ files. concat (session_output session files).pieces ≡ [] → out.new ≡ out.old) }
     ensures no_usage { result ≢ Status.Usage }
-    ensures read_cause { result ≡ Status.ReadFault → HasRisen (S.faults shelf.old) (S.faults shelf.new) }
+    ensures shelf { IsOnlyRead (S.files shelf.old) (S.files shelf.new) (S.faults shelf.old) (S.faults shelf.new) (result ≡ Status.ReadFault) }
     ensures write_cause { result ≡ Status.WriteFault → HasRisen (K.faults out.old) (K.faults out.new) }
-    ensures same { S.files shelf.new ≡ S.files shelf.old }
     ensures told_same { is_some (K.taken out.new) ≡ is_some (K.taken out.old) }
-    ensures shelf_faults { S.faults shelf.old ≤ S.faults shelf.new }
     ensures sink_faults { K.faults out.old ≤ K.faults out.new }
 {
     let Session {
@@ -62,12 +64,11 @@ fn answer_all<S: Shelf, K: Sink>(
     requires limits { workspace.old.limits ≡ setting.now.limits }
     ensures leaves { Leaves (S.files shelf.old) (λ files. played (setting_shown setting.now) files workspace.old.texts.known commands.now) result (K.taken out.old) (K.taken out.new) }
     ensures in_front { IfSome (K.taken out.old) (λ before. StandsInFront before (K.taken out.new)) }
+    ensures unput { commands.now ≡ [] → out.new ≡ out.old }
     ensures no_usage { result ≢ Status.Usage }
-    ensures read_cause { result ≡ Status.ReadFault → HasRisen (S.faults shelf.old) (S.faults shelf.new) }
+    ensures shelf { IsOnlyRead (S.files shelf.old) (S.files shelf.new) (S.faults shelf.old) (S.faults shelf.new) (result ≡ Status.ReadFault) }
     ensures write_cause { result ≡ Status.WriteFault → HasRisen (K.faults out.old) (K.faults out.new) }
-    ensures same { S.files shelf.new ≡ S.files shelf.old }
     ensures told_same { is_some (K.taken out.new) ≡ is_some (K.taken out.old) }
-    ensures shelf_faults { S.faults shelf.old ≤ S.faults shelf.new }
     ensures sink_faults { K.faults out.old ≤ K.faults out.new }
 {
     let mut rest = commands;
@@ -98,11 +99,9 @@ fn answer_command<S: Shelf, K: Sink>(
         → Leaves (S.files shelf.old) (λ files. played (setting_shown setting.now) files workspace.old.texts.known (command.now ∷ commands)) status (K.taken out.old) (K.taken out.new)) }
     ensures in_front { IfSome (K.taken out.old) (λ before. StandsInFront before (K.taken out.new)) }
     ensures no_usage { result ≢ Err Status.Usage }
-    ensures read_cause { result ≡ Err Status.ReadFault → HasRisen (S.faults shelf.old) (S.faults shelf.new) }
+    ensures shelf { IsOnlyRead (S.files shelf.old) (S.files shelf.new) (S.faults shelf.old) (S.faults shelf.new) (result ≡ Err Status.ReadFault) }
     ensures write_cause { result ≡ Err Status.WriteFault → HasRisen (K.faults out.old) (K.faults out.new) }
-    ensures same { S.files shelf.new ≡ S.files shelf.old }
     ensures told_same { is_some (K.taken out.new) ≡ is_some (K.taken out.old) }
-    ensures shelf_faults { S.faults shelf.old ≤ S.faults shelf.new }
     ensures sink_faults { K.faults out.old ≤ K.faults out.new }
 {
     match reply(alloc, setting, command, workspace, shelf) {

@@ -1,6 +1,6 @@
 // The reply to one command of a script.
-ghost use Rattle.std.specs.Prelude.{◌≡◌, ◌≤◌, ◌++◌, ◌<◌, ◌^◌, Err, IfOk, IfSome, codes, decimal, length};
-ghost use Rattle.ld_io.specs.Faults.{HasRisen};
+ghost use Rattle.std.specs.Prelude.{◌≡◌, ◌++◌, ◌<◌, ◌^◌, ◌↔◌, Err, IfOk, IfSome, codes, decimal, length};
+ghost use Rattle.ld_io.specs.Shelf.{IsOnlyRead};
 ghost use Rattle.ld_colour.specs.Table.{counting};
 ghost use Rattle.ld_cmd.specs.Playing.{Replied, root_colour, edit_step, query_reply, query_step, refusal_text, root_of, shown_by, replied_to};
 ghost use Rattle.ld_cmd.specs.Querying.{answer_queried};
@@ -34,9 +34,7 @@ pub(crate) fn reply<S: Shelf>(
     ensures limits { workspace.new.limits ≡ workspace.old.limits }
     ensures told { IfSome (S.files shelf.old)
         (λ files. Replies (replied_to (setting_shown setting.now) files workspace.old.texts.known command.now) workspace.new.texts.known result) }
-    ensures cause { result ≡ Err Stop.ReadFault → HasRisen (S.faults shelf.old) (S.faults shelf.new) }
-    ensures same { S.files shelf.new ≡ S.files shelf.old }
-    ensures never_falls { S.faults shelf.old ≤ S.faults shelf.new }
+    ensures shelf { IsOnlyRead (S.files shelf.old) (S.files shelf.new) (S.faults shelf.old) (S.faults shelf.new) (result ≡ Err Stop.ReadFault) }
 {
     // Read here, so that the limit on entries is seen to be below 2^32.
     let _most = setting.limits.entries;
@@ -67,9 +65,7 @@ fn answer_edit<S: Shelf>(
     ensures limits { workspace.new.limits ≡ workspace.old.limits }
     ensures told { IfSome (S.files shelf.old)
         (λ files. Replies (edit_step workspace.old.limits files workspace.old.texts.known edit.now) workspace.new.texts.known result) }
-    ensures cause { result ≡ Err Stop.ReadFault → HasRisen (S.faults shelf.old) (S.faults shelf.new) }
-    ensures same { S.files shelf.new ≡ S.files shelf.old }
-    ensures never_falls { S.faults shelf.old ≤ S.faults shelf.new }
+    ensures shelf { IsOnlyRead (S.files shelf.old) (S.files shelf.new) (S.faults shelf.old) (S.faults shelf.new) (result ≡ Err Stop.ReadFault) }
 {
     let edited = change(workspace, shelf, edit);
     edit_reply(alloc, edited)
@@ -77,7 +73,7 @@ fn answer_edit<S: Shelf>(
 
 fn edit_reply(alloc: Global, edited: Result<(), EditError>) -> Result<Bytes, Stop>
     ensures reply { (wanted : Replied) (known : Known) → IfSome (edit_given known edited) (λ given. given ≡ wanted) → Replies wanted known result }
-    ensures fault { result ≡ Err Stop.ReadFault → edited ≡ Err EditError.ReadFault }
+    ensures fault { result ≡ Err Stop.ReadFault ↔ edited ≡ Err EditError.ReadFault }
 {
     match edited {
         Ok(()) => Ok(List::from_slice(alloc, b"ok\n")?),
@@ -123,9 +119,7 @@ fn answer_query<S: Shelf>(
     ensures limits { workspace.new.limits ≡ workspace.old.limits }
     ensures told { IfSome (S.files shelf.old)
         (λ files. Replies (query_step workspace.old.limits files workspace.old.texts.known what (counting table.now) root.now colour) workspace.new.texts.known result) }
-    ensures cause { result ≡ Err Stop.ReadFault → HasRisen (S.faults shelf.old) (S.faults shelf.new) }
-    ensures same { S.files shelf.new ≡ S.files shelf.old }
-    ensures never_falls { S.faults shelf.old ≤ S.faults shelf.new }
+    ensures shelf { IsOnlyRead (S.files shelf.old) (S.files shelf.new) (S.faults shelf.old) (S.faults shelf.new) (result ≡ Err Stop.ReadFault) }
 {
     let answer = ask(workspace, shelf, root, colour);
     answer_reply(alloc, what, workspace.texts(), table, answer)
@@ -140,7 +134,7 @@ fn answer_reply(
 ) -> Result<Bytes, Stop>
     requires { IfOk answer (λ answer. length answer.entries < 2 ^ 32) }
     ensures reply { (wanted : Replied) → IfSome (answer_queried answer) (λ given. query_reply what (counting table.now) texts.now.known given ≡ wanted) → Replies wanted texts.now.known result }
-    ensures fault { result ≡ Err Stop.ReadFault → answer ≡ Err AnswerError.ReadFault }
+    ensures fault { result ≡ Err Stop.ReadFault ↔ answer ≡ Err AnswerError.ReadFault }
 {
     match answer {
         Ok(answer) => Ok(shown_lines(alloc, what, texts, table, &answer)?),

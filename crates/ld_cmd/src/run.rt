@@ -1,5 +1,7 @@
 ghost use Rattle.std.specs.Prelude.{◌≡◌, ◌≤◌, ◌∷◌, [], IfSome, None, is_some, map, string_bytes};
+ghost use Rattle.std.specs.List.{concat};
 ghost use Rattle.ld_io.specs.Faults.{HasRisen};
+ghost use Rattle.ld_io.specs.Shelf.{IsOnlyRead};
 ghost use Rattle.ld_cmd.specs.Ending.{EndsAs, IsComplete, PutsOnce, StandsInFront, Takes, TakesNothing, UsageIsExact};
 ghost use Rattle.ld_cmd.specs.Output.{output};
 ghost use Rattle.ld_words.specs.Words.{intent_of, usage_line};
@@ -34,18 +36,17 @@ pub fn run<S: Shelf, K: Sink>(alloc: Global, words: &[String], shelf: &mut S, ou
     ensures usage_taken { intent_of (map string_bytes words.now) ≡ None → IfSome (K.taken out.old)
         (λ before. Takes result (usage_line ∷ []) before (K.taken out.new)) }
     ensures usage_unread { intent_of (map string_bytes words.now) ≡ None → shelf.new ≡ shelf.old }
-    ensures read_cause { result ≡ Status.ReadFault → HasRisen (S.faults shelf.old) (S.faults shelf.new) }
+    ensures shelf { IsOnlyRead (S.files shelf.old) (S.files shelf.new) (S.faults shelf.old) (S.faults shelf.new) (result ≡ Status.ReadFault) }
     ensures write_cause { result ≡ Status.WriteFault → HasRisen (K.faults out.old) (K.faults out.new) }
     // Nothing but a script's replies is taken where reading or memory stopped the run.
     ensures nothing { PutsOnce (intent_of (map string_bytes words.now)) → IfSome (K.taken out.old)
         (λ before. TakesNothing result before (K.taken out.new)) }
-    // An empty piece is not put: where it is all of a command's output, the sink stays as it was.
-    ensures unput { PutsOnce (intent_of (map string_bytes words.now)) → IfSome (S.files shelf.old)
-        (λ files. (output (map string_bytes words.now) files).pieces ≡ [] ∷ [] → out.new ≡ out.old) }
+    // An empty piece is not put: where the whole output has no byte, as that of a script without a
+    // command, the sink stays as it was.
+    ensures unput { IfSome (S.files shelf.old)
+        (λ files. concat (output (map string_bytes words.now) files).pieces ≡ [] → out.new ≡ out.old) }
     ensures in_front { IfSome (K.taken out.old) (λ before. StandsInFront before (K.taken out.new)) }
-    ensures same_files { S.files shelf.new ≡ S.files shelf.old }
     ensures told_same { is_some (K.taken out.new) ≡ is_some (K.taken out.old) }
-    ensures shelf_faults { S.faults shelf.old ≤ S.faults shelf.new }
     ensures sink_faults { K.faults out.old ≤ K.faults out.new }
 {
     if !is_command(words) {

@@ -1,7 +1,6 @@
 // A script over a model: what it needs is read.
 ghost use Rattle.std.specs.Prelude.{◌≡◌, ◌≢◌, ◌≤◌, Err, IfSome, None, length};
-ghost use Rattle.ld_io.specs.Faults.{HasRisen};
-ghost use Rattle.ld_io.specs.Shelf.{Files};
+ghost use Rattle.ld_io.specs.Shelf.{Files, IsOnlyRead};
 ghost use Rattle.ld_colour.specs.Table.{counting};
 ghost use Rattle.ld_engine.specs.Limits.{bad_limit};
 ghost use Rattle.ld_script.specs.Script.{commands_of};
@@ -30,9 +29,7 @@ pub(crate) fn open_replay<S: Shelf>(
 ) -> Result<Session, Stop>
     requires bounds { bad_limit (limits_of (options_shown options.now)) ≡ None }
     ensures told { IfSome (S.files shelf.old) (λ files. OpensSession (replay_output file.now script.now (options_shown options.now) files) files result) }
-    ensures cause { result ≡ Err Stop.ReadFault → HasRisen (S.faults shelf.old) (S.faults shelf.new) }
-    ensures same { S.files shelf.new ≡ S.files shelf.old }
-    ensures never_falls { S.faults shelf.old ≤ S.faults shelf.new }
+    ensures shelf { IsOnlyRead (S.files shelf.old) (S.files shelf.new) (S.faults shelf.old) (S.faults shelf.new) (result ≡ Err Stop.ReadFault) }
 {
     let bytes = match read_input(alloc, file.as_bytes(), shelf) {
         Ok(bytes) => bytes,

@@ -16,6 +16,7 @@ mod edits;
 mod faces;
 mod findings;
 mod inlined;
+mod library;
 mod limits;
 mod ordinary;
 mod outside;

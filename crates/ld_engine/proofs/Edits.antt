@@ -24,7 +24,7 @@ use Rattle.ld_engine.specs.declared.learning.LearnStop.{LearnStop}
 use Rattle.ld_engine.specs.declared.learning.LearnStop.TheVariants as stop
 use Rattle.ld_engine.specs.declared.limits.Limits.{Limits}
 use Rattle.ld_engine.proofs.Standing.{WantsNew, learning_by-stands}
-use Rattle.ld_engine.proofs.Wanted.{learnt-by}
+use Rattle.ld_engine.proofs.Wanted.{learns-nothing, learnt-by}
 
 -- ---- the files that an edit names
 
@@ -57,11 +57,6 @@ edit-wants edit known file is = unknown-new known (files_in edit) file is
 
 pub wants-new : NumbersAgree → (edit : Edit) → WantsNew (wanted_by edit)
 wants-new numbers edit known file is = numbers.map known file ∙ ap (option_map (lines_at known)) (edit-wants edit known file is)
-
--- where nothing is wanted, nothing is learnt
-pub learns-nothing : (wants : Wanting) (old new : Known) → wants old ≡ None → LearnsBy wants old new → new ≡ old
-learns-nothing wants old new none ([], grown, are) = grown ∙ append-nil old
-learns-nothing wants old new none (entry ∷ entries, grown, are) = absurd (cc)
 
 -- ---- what an edit leaves
 

@@ -32,25 +32,25 @@ module _ (limits : Limits) where
   load-adds : (known loaded : Known) (texts : Blocks) → load limits known texts ≡ Ok loaded → (more : Known) × (loaded ≡ known ++ more)
   load-adds known loaded [] is = ([], sym (ok-same is) ∙ sym (append-nil known))
   load-adds known loaded (text ∷ texts) is =
-      by (λ loads. load-adds (known ++ (file_in Model text.0, Some text.1) ∷ []) loaded texts loads) (limit_passed limits.texts limits.total_weight known (Some text.1)) is
+      by (λ loads. load-adds (known ++ (file_in (Model 1) text.0, Some text.1) ∷ []) loaded texts loads) (limit_passed limits.texts limits.total_weight known (Some text.1)) is
     where
-      by : (load limits (known ++ (file_in Model text.0, Some text.1) ∷ []) texts ≡ Ok loaded → (more : Known) × (loaded ≡ (known ++ (file_in Model text.0, Some text.1) ∷ []) ++ more)) → (passed : Option Over) → unless_passed passed (load limits (known ++ (file_in Model text.0, Some text.1) ∷ []) texts) ≡ Ok loaded → (more : Known) × (loaded ≡ known ++ more)
+      by : (load limits (known ++ (file_in (Model 1) text.0, Some text.1) ∷ []) texts ≡ Ok loaded → (more : Known) × (loaded ≡ (known ++ (file_in (Model 1) text.0, Some text.1) ∷ []) ++ more)) → (passed : Option Over) → unless_passed passed (load limits (known ++ (file_in (Model 1) text.0, Some text.1) ∷ []) texts) ≡ Ok loaded → (more : Known) × (loaded ≡ known ++ more)
       by further None loads =
           let rest = further loads in
-          ((file_in Model text.0, Some text.1) ∷ rest.0, rest.1 ∙ append_assoc known ((file_in Model text.0, Some text.1) ∷ []) rest.0)
+          ((file_in (Model 1) text.0, Some text.1) ∷ rest.0, rest.1 ∙ append_assoc known ((file_in (Model 1) text.0, Some text.1) ∷ []) rest.0)
       by further (Some over) loads = absurd (cc)
 
-  load-begins : (text : List ℕ × List (List ℕ)) (texts : Blocks) (known : Known) → load limits [] (text ∷ texts) ≡ Ok known → BeginsWith (file_in Model text.0) text.1 known
+  load-begins : (text : List ℕ × List (List ℕ)) (texts : Blocks) (known : Known) → load limits [] (text ∷ texts) ≡ Ok known → BeginsWith (file_in (Model 1) text.0) text.1 known
   load-begins text texts known is = by (limit_passed limits.texts limits.total_weight [] (Some text.1)) is
     where
-      by : (passed : Option Over) → unless_passed passed (load limits ((file_in Model text.0, Some text.1) ∷ []) texts) ≡ Ok known → BeginsWith (file_in Model text.0) text.1 known
-      by None loads = load-adds ((file_in Model text.0, Some text.1) ∷ []) known texts loads
+      by : (passed : Option Over) → unless_passed passed (load limits ((file_in (Model 1) text.0, Some text.1) ∷ []) texts) ≡ Ok known → BeginsWith (file_in (Model 1) text.0) text.1 known
+      by None loads = load-adds ((file_in (Model 1) text.0, Some text.1) ∷ []) known texts loads
       by (Some over) loads = absurd (cc)
 
 pub main-begins : TextStands → (limits : Limits) (own bytes : List ℕ) (known : Known) (main : FileId) → load limits [] (text_blocks own bytes) ≡ Ok known → main_of (text_blocks own bytes) ≡ Some main → BeginsWith main (text_of own bytes) known
 main-begins stands limits own bytes known main loads is =
     let first = stands own bytes in
-    let same : file_in Model first.0 ≡ main = some-same (sym (ap main_of first.2) ∙ is) in
+    let same : file_in (Model 1) first.0 ≡ main = some-same (sym (ap main_of first.2) ∙ is) in
     subst (λ file. BeginsWith file (text_of own bytes) known) same (load-begins limits (first.0, text_of own bytes) first.1 known (subst (λ texts. load limits [] texts ≡ Ok known) first.2 loads))
 
 -- ---- the first file has number 0

@@ -14,6 +14,8 @@ pub mod Grown
 pub mod First
 pub mod Mains
 pub mod Settled
+pub mod Missing
 pub mod Standing
 pub mod Edits
 pub mod Types
+pub mod Moves

@@ -38,12 +38,12 @@ refusal-loads limits known new block (Refused over) file max_files max_weight fi
     let text : List ℕ × List (List ℕ) = (block.name, block.lines) in
     let full : limit_passed limits.texts limits.total_weight known (Some block.lines) ≡ Some over =
     sym (ap (λ n. limit_passed n limits.total_weight known (Some block.lines)) files) ∙ sym (ap (λ w. limit_passed max_files w known (Some block.lines)) weight) ∙ passed in
-    ap (λ b. load limits known (cond b [] (text ∷ []))) is_text ∙ ap (λ o. unless_passed o (load limits (known ++ (file_in Model text.0, Some text.1) ∷ []) [])) full
+    ap (λ b. load limits known (cond b [] (text ∷ []))) is_text ∙ ap (λ o. unless_passed o (load limits (known ++ (file_in (Model 1) text.0, Some text.1) ∷ []) [])) full
 refusal-loads limits known new block NoMemory file max_files max_weight files weight is_text passed = tt
 
 module _ (limits : Limits) (old : Known) (text : List ℕ × List (List ℕ)) (more : Blocks) where
   abbrev next : Known
-  next = old ++ (file_in Model text.0, Some text.1) ∷ []
+  next = old ++ (file_in (Model 1) text.0, Some text.1) ∷ []
 
   text-loaded : (mid : Known) → load limits old (text ∷ []) ≡ Ok mid → (mid ≡ next) × (load limits old (text ∷ more) ≡ load limits mid more)
   text-loaded mid is = by (limit_passed limits.texts limits.total_weight old (Some text.1)) is
@@ -97,16 +97,16 @@ module _ (limits : Limits) (old : Known) (text : List ℕ × List (List ℕ)) (m
   still-new numbers files (other ∷ texts) new others = (unknown, still-new numbers files texts new.1 others.1)
     where
       file : FileId
-      file = file_in Model other.0
+      file = file_in (Model 1) other.0
 
-      by : (same : Bool) → same_file file (file_in Model text.0) ≡ same → option_or (id_of old file) (cond same (Some (length old)) None) ≡ None
+      by : (same : Bool) → same_file file (file_in (Model 1) text.0) ≡ same → option_or (id_of old file) (cond same (Some (length old)) None) ≡ None
       by true is =
-          let equal : other.0 ≡ text.0 = ap (λ (f : FileId). f.name) ((files.same file (file_in Model text.0)).0 is) in
+          let equal : other.0 ≡ text.0 = ap (λ (f : FileId). f.name) ((files.same file (file_in (Model 1) text.0)).0 is) in
           absurd (true≢false (sym ((bytes_eq-Decides text.0 other.0).1 (sym equal)) ∙ others.0))
       by false is = ap (λ o. option_or o None) new.0
 
       unknown : id_of next file ≡ None
-      unknown = (numbers old (file_in Model text.0) (Some text.1)).id file ∙ by (same_file file (file_in Model text.0)) refl
+      unknown = (numbers old (file_in (Model 1) text.0) (Some text.1)).id file ∙ by (same_file file (file_in (Model 1) text.0)) refl
 
   -- the other texts are still new
   pub new-behind : LearningNumbers → IsFileEquality → (is_data : Bool) (mid : Known) → load limits old (behind is_data text []) ≡ Ok mid → AreNew old (behind is_data text more) → IsDistinct bytes_eq (map (λ text. text.0) (behind is_data text more)) → AreNew mid more
@@ -123,7 +123,7 @@ none-known numbers file = by (id_of [] file) refl
 
 pub all-new : NumbersAgree → (texts : Blocks) → AreNew [] texts
 all-new numbers [] = tt
-all-new numbers (text ∷ texts) = (none-known numbers (file_in Model text.0), all-new numbers texts)
+all-new numbers (text ∷ texts) = (none-known numbers (file_in (Model 1) text.0), all-new numbers texts)
 
 -- ---- The main model.
 
@@ -132,19 +132,19 @@ module _ (numbers : LearningNumbers) (limits : Limits) (main : FileId) where
   first-stays old new [] some first is = ap (λ known. file_at known 0) (sym (ok-same is)) ∙ first
   first-stays old new (text ∷ texts) some first is = by (λ known more kept. first-stays known new texts more kept) (limit_passed limits.texts limits.total_weight old (Some text.1)) is
     where
-      by : ((known : Known) → 0 < length known → file_at known 0 ≡ Some main → load limits known texts ≡ Ok new → file_at new 0 ≡ Some main) → (passed : Option Over) → unless_passed passed (load limits (old ++ (file_in Model text.0, Some text.1) ∷ []) texts) ≡ Ok new → file_at new 0 ≡ Some main
+      by : ((known : Known) → 0 < length known → file_at known 0 ≡ Some main → load limits known texts ≡ Ok new → file_at new 0 ≡ Some main) → (passed : Option Over) → unless_passed passed (load limits (old ++ (file_in (Model 1) text.0, Some text.1) ∷ []) texts) ≡ Ok new → file_at new 0 ≡ Some main
       by further None is =
-          let count = length-append old ((file_in Model text.0, Some text.1) ∷ []) in
-          let more : 0 < length (old ++ (file_in Model text.0, Some text.1) ∷ []) = omega arith in
-          further (old ++ (file_in Model text.0, Some text.1) ∷ []) more ((numbers old (file_in Model text.0) (Some text.1)).old_file 0 some ∙ first) is
+          let count = length-append old ((file_in (Model 1) text.0, Some text.1) ∷ []) in
+          let more : 0 < length (old ++ (file_in (Model 1) text.0, Some text.1) ∷ []) = omega arith in
+          further (old ++ (file_in (Model 1) text.0, Some text.1) ∷ []) more ((numbers old (file_in (Model 1) text.0) (Some text.1)).old_file 0 some ∙ first) is
       by further (Some over) is = absurd (cc)
 
 -- the first text has number 0
-pub main-first : LearningNumbers → (limits : Limits) (text : List ℕ × List (List ℕ)) (texts : Blocks) (known : Known) → load limits [] (text ∷ texts) ≡ Ok known → file_at known 0 ≡ Some (file_in Model text.0)
+pub main-first : LearningNumbers → (limits : Limits) (text : List ℕ × List (List ℕ)) (texts : Blocks) (known : Known) → load limits [] (text ∷ texts) ≡ Ok known → file_at known 0 ≡ Some (file_in (Model 1) text.0)
 main-first numbers limits text texts known is = by (limit_passed limits.texts limits.total_weight [] (Some text.1)) is
   where
     main : FileId
-    main = file_in Model text.0
+    main = file_in (Model 1) text.0
 
     by : (passed : Option Over) → unless_passed passed (load limits ((main, Some text.1) ∷ []) texts) ≡ Ok known → file_at known 0 ≡ Some main
     by None is = first-stays numbers limits main ((main, Some text.1) ∷ []) known texts (omega arith) (numbers [] main (Some text.1)).new_file is

@@ -234,17 +234,29 @@ module _ (numbers : NumbersAgree) (known : Known) where
           by further (Some id) some is = on further id some (file_reaches known texts (file_at known id) (lines_at known id)) refl is
 
     -- all that a root reaches is learnt where nothing is wanted for it
-    root-settles : (root : FileId) (id : ℕ) (reached : Reached) → reach known root ≡ reached → id_of known root ≡ Some id → wanted_in reached ≡ None → (final : List ℕ) × (list_any (nat_eq id) final ≡ true) × IsClosed (inside final) known
+    pub root-settles : (root : FileId) (id : ℕ) (final : List ℕ) → reach known root ≡ Reaches final → id_of known root ≡ Some id → (list_any (nat_eq id) final ≡ true) × IsClosed (inside final) known
     unfolding reach
-    root-settles root id (Wants file) is number none = absurd (cc)
-    root-settles root id (Reaches final) is number none =
+    root-settles root id final is number =
         let from : texts_reach (length known) known 0 (id ∷ []) ≡ Reaches final =
         sym (ap (λ o. elim o [ None ↦ Wants root | Some id ↦ texts_reach (length known) known 0 (id ∷ []) ]) number) ∙ is in
         let settled = texts-settle final (length known) 0 (id ∷ []) (omega arith) (known-first root id number) from in (
-          final,
           grown-among (id ∷ []) final settled.0 id (has-at (id ∷ []) 0 id refl),
           λ text is_inside. (let at = place-of final text.0 is_inside in settled.1 at.0 text.0 (omega arith) at.1),
         )
+
+    -- a root that reaches texts is known
+    pub root-known : (root : FileId) (final : List ℕ) → reach known root ≡ Reaches final → (id : ℕ) × (id_of known root ≡ Some id)
+    unfolding reach
+    root-known root final is = by (id_of known root) refl
+      where
+        by : (id : Option ℕ) → id_of known root ≡ id → (id : ℕ) × (id_of known root ≡ Some id)
+        by None none =
+            let no : Wants root ≡ Reaches final = sym (ap (λ o. elim o [ None ↦ Wants root | Some id ↦ texts_reach (length known) known 0 (id ∷ []) ]) none) ∙ is in cc
+        by (Some id) some = (id, some)
+
+all-reached : (reached : Reached) → wanted_in reached ≡ None → (final : List ℕ) × (reached ≡ Reaches final)
+all-reached (Wants file) none = absurd (cc)
+all-reached (Reaches final) none = (final, refl)
 
 -- the lines of a known root stand as they are known
 root-lines : NumbersAgree → (known : Known) (shelf : FileId → Text) (root : FileId) (id : ℕ) → id_of known root ≡ Some id → (standing_texts known shelf).lines (record { 0 = id }) ≡ (known_texts known).lines (record { 0 = id })
@@ -259,7 +271,8 @@ root-lines numbers known shelf root id number =
 pub stands : NumbersAgree → StandingLaw → StandsForRoots
 unfolding outcome_counts
 stands numbers law known shelf distinct root id number none depth most colour =
-    let settled = root-settles numbers known distinct root id (reach known root) refl number none in
-    let same : steps_in (standing_texts known shelf) depth (record { 0 = id }) colour ≡ steps_in (known_texts known) depth (record { 0 = id }) colour = ap (λ ls. step_parts ls (map length (root_outcomes (standing_texts known shelf) depth (record { 0 = id }) colour))) (root-lines numbers known shelf root id number) ∙ ap (λ os. step_parts ((known_texts known).lines (record { 0 = id })) (map length os)) (law.outcomes (inside settled.0) known shelf settled.2 (left_below depth []) [] (record { 0 = id }) (colour_above colour) settled.1) in
+    let reached = all-reached (reach known root) none in
+    let settled = root-settles numbers known distinct root id reached.0 reached.1 number in
+    let same : steps_in (standing_texts known shelf) depth (record { 0 = id }) colour ≡ steps_in (known_texts known) depth (record { 0 = id }) colour = ap (λ ls. step_parts ls (map length (root_outcomes (standing_texts known shelf) depth (record { 0 = id }) colour))) (root-lines numbers known shelf root id number) ∙ ap (λ os. step_parts ((known_texts known).lines (record { 0 = id })) (map length os)) (law.outcomes (inside reached.0) known shelf settled.1 (left_below depth []) [] (record { 0 = id }) (colour_above colour) settled.0) in
     ap (λ steps. with_steps steps (answer (standing_texts known shelf) depth most (record { 0 = id }) colour)) same
-    ∙ ap (with_steps (steps_in (known_texts known) depth (record { 0 = id }) colour)) (law.answers (inside settled.0) known shelf settled.2 depth most (record { 0 = id }) colour settled.1)
+    ∙ ap (with_steps (steps_in (known_texts known) depth (record { 0 = id }) colour)) (law.answers (inside reached.0) known shelf settled.1 depth most (record { 0 = id }) colour settled.0)

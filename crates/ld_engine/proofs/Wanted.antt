@@ -35,6 +35,15 @@ pub learns-file : (wants : Wanting) (old mid new : Known) (file : FileId) (resul
 learns-file wants old mid new file (Ok id) learns next (text, kept) = learns-more wants old mid new file text learns next kept.known
 learns-file wants old mid new file (Err stop) learns next same = learns-same wants old mid new learns same
 
+-- where nothing is wanted, nothing is learnt
+pub learns-nothing : (wants : Wanting) (old new : Known) → wants old ≡ None → LearnsBy wants old new → new ≡ old
+learns-nothing wants old new none ([], grown, are) = grown ∙ append-nil old
+learns-nothing wants old new none (entry ∷ entries, grown, are) = absurd (cc)
+
+-- once a file is wanted, one was wanted before
+pub none-wanted : {A : Type 0} (wants : Wanting) (old mid : Known) (file : FileId) → LearnsBy wants old mid → wants mid ≡ Some file → wants old ≡ None → A
+none-wanted wants old mid file learns next none = absurd (let same : wants mid ≡ None = ap wants (learns-nothing wants old mid none learns) ∙ none in cc)
+
 -- ---- What stops.
 
 pub stops-file : (limits : Limits) (wants : Wanting) (file : FileId) (mid new : Known) (stop : LearnStop) → wants mid ≡ Some file → new ≡ mid → StopsAt limits mid file stop → StopsFor limits wants new stop

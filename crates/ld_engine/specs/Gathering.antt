@@ -1,5 +1,5 @@
 -- Outcomes that are gathered one after another: the entries so far, and what follows them.
-use Rattle.std.specs.Prelude.{◌≡◌, ◌++◌, ℕ, zero, suc, List, [], ◌∷◌, map, take, drop, Option, Some, None, Ok, Err}
+use Rattle.std.specs.Prelude.{◌≡◌, ◌≤◌, ◌+◌, ◌++◌, ℕ, zero, suc, List, [], ◌∷◌, length, map, take, drop, Option, Some, None, Ok, Err}
 use Rattle.ld_names.specs.declared.file.TextId.{TextId}
 use Rattle.ld_entry.specs.Answers.{until_end}
 use Rattle.ld_entry.specs.Carrying.{Above, Outcome, carried_outcome, nothing_above}
@@ -24,6 +24,10 @@ Gathers most old new end outcomes = (behind : List Outcome) → gathered most ne
 -- further entries stand behind those of before
 abbrev pub Extends : List Entry → List Entry → Type 0
 Extends old new = (more : List Entry) × (new ≡ old ++ more)
+
+-- where no entry too many stood, at most one does
+abbrev pub KeepsWithin : ℕ → List Entry → List Entry → Type 0
+KeepsWithin most old new = length old ≤ most → length new ≤ most + 1
 
 -- a text at the end of a way, below nothing
 abbrev pub alone : NumberedTexts → List TextId → TextId → Context

@@ -1,3 +1,4 @@
 -- What the private types of this crate mean; no other crate cites it.
 pub mod Ends
 pub mod Meeting
+pub mod Moving

@@ -1,13 +1,15 @@
 -- What answers say: over the known texts, of the texts as they stand, and of their steps; and what learning leaves.
-use Rattle.std.specs.Prelude.{◌≡◌, ℕ, List, [], length, Some, None, IsSome, Result, Ok}
+use Rattle.std.specs.Prelude.{◌≡◌, ℕ, List, [], length, Some, None, IsSome, Result, Ok, slice_get}
 use Rattle.ld_io.specs.Shelf.{Files}
 use Rattle.ld_mpd.specs.Blocks.{text_blocks, text_of}
-use Rattle.ld_names.specs.Finding.{IsThere}
-use Rattle.ld_names.specs.Standing.{Known, Text, known_map, standing}
+use Rattle.ld_names.specs.Finding.{Exactly, IsThere}
+use Rattle.ld_names.specs.Standing.{Absent, Known, Text, find, known_map, standing}
 use Rattle.ld_names.specs.declared.file.FileId.{FileId}
 use Rattle.ld_names.specs.declared.file.TextId.{TextId}
-use Rattle.ld_texts.specs.Known.{AreDistinct, id_of}
-use Rattle.ld_texts.specs.Reach.{wanted}
+use Rattle.ld_num.specs.declared.point.Placement.{Placement}
+use Rattle.ld_line.specs.declared.line.Line.TheVariants.{Ref}
+use Rattle.ld_texts.specs.Known.{AreDistinct, file_at, id_of}
+use Rattle.ld_texts.specs.Reach.{Reaches, reach, wanted}
 use Rattle.ld_texts.specs.declared.edit.Edit.{Edit}
 use Rattle.ld_colour.specs.declared.colour.Colour.{Colour}
 use Rattle.ld_steps.specs.Laws.{AreSteps}
@@ -37,6 +39,24 @@ StepsOfAnswers =
 abbrev pub LearningStands : Type 0
 LearningStands =
     (limits : Limits) (files : Files) (root : FileId) (known : Known) (file : FileId) → standing (known_map (learning limits files root known).known) (text_on files) file ≡ standing (known_map known) (text_on files) file
+
+-- nothing is wanted for the root, and a line of a text that it reaches refers to a name
+pub record IsReached (known : Known) (root file : FileId) (text : TextId) (name : List ℕ) : Type 0 where
+  pub reached : List ℕ
+  pub reaches : reach known root ≡ Reaches reached
+  pub place : ℕ
+  pub is_reached : slice_get reached place ≡ Some text.0
+  pub is_file : file_at known text.0 ≡ Some file
+  pub before : ℕ
+  pub word : ℕ
+  pub placement : Placement
+  pub refers : slice_get ((known_texts known).lines text) before ≡ Some (Ref word placement (Some name))
+
+-- Where nothing is wanted, a name is found unless it is absent in every folder, among the known texts and among the
+-- texts as they stand. So what refers to it is at fault as missing exactly where its look-up is absent.
+pub record IsFoundUnlessAbsent : Type 0 where
+  pub known : (known : Known) (root file : FileId) (text : TextId) (name : List ℕ) → AreDistinct known → IsReached known root file text name → Exactly ((known_texts known).found text name ≡ None) (find (known_map known) file.folder name ≡ Absent)
+  pub standing : (known : Known) (shelf : FileId → Text) (root file : FileId) (text : TextId) (name : List ℕ) → AreDistinct known → IsReached known root file text name → Exactly ((standing_texts known shelf).found text name ≡ None) (find (standing (known_map known) shelf) file.folder name ≡ Absent)
 
 -- A file has a main model; once the file is loaded, it is there; and it stays there, whatever is learnt.
 pub record MainIsThere : Type 0 where

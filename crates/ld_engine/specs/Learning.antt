@@ -18,7 +18,7 @@ use Rattle.ld_engine.specs.declared.limits.Limits.{Limits}
 
 -- where the files of a folder are fetched from
 abbrev pub place_of : Folder → Place
-place_of Model = place.Model
+place_of (Model document) = place.Model
 place_of Parts = place.Parts
 place_of P = place.P
 

@@ -26,12 +26,12 @@ unless_passed (Some over) loaded = Err over
 abbrev pub load : Limits → Known → Blocks → Result Known Over
 load limits known [] = Ok known
 load limits known (text ∷ texts) =
-    unless_passed (limit_passed limits.texts limits.total_weight known (Some text.1)) (load limits (known ++ (file_in Model text.0, Some text.1) ∷ []) texts)
+    unless_passed (limit_passed limits.texts limits.total_weight known (Some text.1)) (load limits (known ++ (file_in (Model 1) text.0, Some text.1) ∷ []) texts)
 
 -- the main model is the first text
 abbrev pub main_of : Blocks → Option FileId
 main_of [] = None
-main_of (text ∷ texts) = Some (file_in Model text.0)
+main_of (text ∷ texts) = Some (file_in (Model 1) text.0)
 
 -- all texts are loaded, and the answer is the main model; or a limit is passed, or memory is lacking, and nothing is
 -- known
@@ -64,4 +64,4 @@ BeginsWith file lines known = (rest : Known) × (known ≡ (file, Some lines) �
 -- no file beside the model has the name of one of these texts
 abbrev pub AreNew : Known → Blocks → Type 0
 AreNew known [] = ⊤
-AreNew known (text ∷ texts) = (id_of known (file_in Model text.0) ≡ None) × AreNew known texts
+AreNew known (text ∷ texts) = (id_of known (file_in (Model 1) text.0) ≡ None) × AreNew known texts

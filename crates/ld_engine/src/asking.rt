@@ -1,4 +1,4 @@
-ghost use Rattle.std.specs.Prelude.{◌≡◌, Err, IfSome};
+ghost use Rattle.std.specs.Prelude.{◌≡◌, Err, IfSome, None};
 ghost use Rattle.ld_io.specs.Shelf.{IsOnlyRead};
 ghost use Rattle.ld_texts.specs.Reach.{wanted};
 ghost use Rattle.ld_engine.specs.Asking.{Answers, AnswersTold};
@@ -78,6 +78,7 @@ impl Workspace {
         ensures told { IfSome (S.files shelf.old) (λ files.
             AnswersTold self.old.limits files root.now self.old.texts.known self.new.texts.known result) }
         ensures shelf { IsOnlyRead (S.files shelf.old) (S.files shelf.new) (S.faults shelf.old) (S.faults shelf.new) (result ≡ Err AnswerError.ReadFault) }
+        ensures unread { wanted self.old.texts.known root.now ≡ None → shelf.new ≡ shelf.old }
     {
         match self.learn_for(shelf, root) {
             Ok(id) => self.answer_known(root, id, colour),

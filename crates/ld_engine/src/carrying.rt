@@ -8,7 +8,8 @@ use ld_entry::{Entry, Fault, Outer, carry};
 // Carries the entries from a place on, up to the first that is refused: it and those behind it go.
 pub(crate) fn carry_from(outer: &Outer, start: usize, entries: &mut Vec<Entry>) -> Option<Fault>
     requires { start ≤ length entries.old.items }
-    ensures { CarriesFrom (above_of outer.now) start entries.old.items entries.new.items result }
+    ensures within { length entries.new.items ≤ length entries.old.items }
+    ensures carries { CarriesFrom (above_of outer.now) start entries.old.items entries.new.items result }
 {
     for index in start..entries.len() {
         match carry(outer, &entries[index]) {

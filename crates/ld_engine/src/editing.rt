@@ -70,6 +70,7 @@ fn first_unknown<'a>(texts: &Texts, edit: &'a Edit) -> Option<&'a FileId>
         Edit::Insert { file, .. } => unless_known(texts, file),
         Edit::Delete { file, .. } => unless_known(texts, file),
         Edit::New { file } => unless_known(texts, file),
+        Edit::Restore { file, .. } => unless_known(texts, file),
         Edit::Drop { file } => unless_known(texts, file),
         Edit::Move { from, to } => match texts.id(from) {
             None => Some(from),
@@ -96,6 +97,7 @@ impl Workspace {
         ensures stands { IfSome (S.files shelf.old) (λ files.
             EditStands (text_on files) edit.now self.old.texts.known self.new.texts.known result) }
         ensures shelf { IsOnlyRead (S.files shelf.old) (S.files shelf.new) (S.faults shelf.old) (S.faults shelf.new) (result ≡ Err EditError.ReadFault) }
+        ensures unread { AreKnown self.old.texts.known (files_in edit.now) → shelf.new ≡ shelf.old }
     {
         number_law();
         lookup_law();
@@ -117,6 +119,7 @@ impl Workspace {
         ensures told { IfSome (S.files shelf.old) (λ files.
             ToldFor self.old.limits files (wanted_by edit.now) self.old.texts.known self.new.texts.known result) }
         ensures shelf { IsOnlyRead (S.files shelf.old) (S.files shelf.new) (S.faults shelf.old) (S.faults shelf.new) (result ≡ Err LearnStop.ReadFault) }
+        ensures unread { wanted_by edit.now self.old.texts.known ≡ None → shelf.new ≡ shelf.old }
     {
         while let Some(file) = first_unknown(self.texts(), edit) {
             if let Err(stop) = self.learn_copy(shelf, file) {

@@ -1,17 +1,18 @@
 // Recursive expansion of the known texts: each text's entries are made below nothing, and carried
 // through the reference that enters it.
-ghost use Rattle.std.specs.Prelude.{◌≡◌, ◌==◌, ◌∷◌, [], ◌++◌, ℕ, IfOk, List, None, OnOk};
+ghost use Rattle.std.specs.Prelude.{◌≡◌, ◌≤◌, ◌+◌, ◌==◌, ◌∷◌, [], ◌++◌, ℕ, IfOk, List, None, OnOk, length};
 ghost use Rattle.std.specs.List.{list_any};
 ghost use Rattle.ld_names.specs.declared.file.TextId.{TextId};
 ghost use Rattle.ld_colour.specs.Colour.{colour_of as colour_of_word};
 ghost use Rattle.ld_entry.specs.Carrying.{above_of};
 ghost use Rattle.ld_entry.specs.NumberedTexts.{known_texts};
 ghost use Rattle.ld_entry.specs.Outcomes.{all, found_outcomes, line_outcomes, outer_of, part_outcomes};
-ghost use Rattle.ld_engine.specs.Gathering.{Extends, Gathers, alone, enter_with};
+ghost use Rattle.ld_engine.specs.Gathering.{Extends, Gathers, KeepsWithin, alone, enter_with};
 ghost use Rattle.ld_engine.specs.Inside.Meeting.{AreMets, met_outcomes};
 
 use crate::carrying::carry_from;
 use crate::met::{Met, NO_POINTS, Reference, drawn, meet};
+use crate::moving::target;
 use crate::reading::Reading;
 use crate::seen::is_part;
 use ld_bfc::{State, below_of};
@@ -30,8 +31,8 @@ fn fault(what: What, source: Source) -> Option<Fault>
     Some(Fault { what, source })
 }
 
-// Whether the file is in hand.
-fn on_way(way: &[TextId], text: TextId, file: TextId) -> bool
+// Whether the file is on the way or is the text behind it.
+pub(crate) fn on_way(way: &[TextId], text: TextId, file: TextId) -> bool
     ensures { result ≡ list_any (λ on. on.0 == file.0) (way.now ++ text ∷ []) }
 {
     let mut rest = way;
@@ -58,14 +59,17 @@ fn passed_down(reference: &Reference) -> Outer
     }
 }
 
-// A part text is an entry of its own where the text that refers to it is none.
+// A part text is an entry of its own where the text that refers to it is none. The entry is of the
+// text at which its moves end.
 fn push_part(
+    alloc: Global,
     texts: &Texts,
     outer: &Outer,
     file: TextId,
     entries: &mut Vec<Entry>,
 ) -> Result<(), AllocError>
     ensures extends { OnOk result (Extends entries.old.items entries.new.items) }
+    ensures within { OnOk result (length entries.new.items ≤ length entries.old.items + 1) }
     ensures gathers { OnOk result ((way : List TextId) (most word : ℕ) → outer.now.colour ≡ colour_of_word word →
         Gathers most entries.old.items entries.new.items None
         (part_outcomes (alone (known_texts texts.now.known) way outer.now.source.text) outer.now.source word file)) }
@@ -73,7 +77,7 @@ fn push_part(
     let _: [Point; 0] = NO_POINTS;
     if !is_part(texts, outer.source.text) && is_part(texts, file) {
         entries.push(Entry::Part {
-            file,
+            file: target(alloc, texts, file)?,
             colour: outer.colour,
             source: outer.source,
         })?;
@@ -98,6 +102,7 @@ fn enter_file(
     ensures read { OnOk result (AreMets (known_texts texts.now.known) reading.new.lists.items) }
     ensures way { OnOk result (way.new.items ≡ way.old.items) }
     ensures extends { OnOk result (Extends entries.old.items entries.new.items) }
+    ensures within { OnOk result (KeepsWithin most entries.old.items entries.new.items) }
     ensures gathers { IfOk result (λ end. Gathers most entries.old.items entries.new.items end
         (found_outcomes (enter_with left) (alone (known_texts texts.now.known) way.old.items reference.now.source.text) reference.now.state reference.now.source reference.now.colour reference.now.placement (Some file))) }
 {
@@ -112,7 +117,7 @@ fn enter_file(
     action_law();
     under_laws();
     let outer = passed_down(reference);
-    push_part(texts, &outer, file, entries)?;
+    push_part(alloc, texts, &outer, file, entries)?;
     let start = entries.len();
     if start > most as usize {
         return Ok(None);
@@ -140,6 +145,7 @@ fn expand_met(
     ensures read { OnOk result (AreMets (known_texts texts.now.known) reading.new.lists.items) }
     ensures way { OnOk result (way.new.items ≡ way.old.items) }
     ensures extends { OnOk result (Extends entries.old.items entries.new.items) }
+    ensures within { OnOk result (KeepsWithin most entries.old.items entries.new.items) }
     ensures gathers { IfOk result (λ end. Gathers most entries.old.items entries.new.items end
         (met_outcomes (enter_with left) (known_texts texts.now.known) way.old.items met)) }
 {
@@ -173,6 +179,7 @@ fn expand_text(
     ensures read { OnOk result (AreMets (known_texts texts.now.known) reading.new.lists.items) }
     ensures way { OnOk result (way.new.items ≡ way.old.items) }
     ensures extends { OnOk result (Extends entries.old.items entries.new.items) }
+    ensures within { OnOk result (KeepsWithin most entries.old.items entries.new.items) }
     ensures gathers { IfOk result (λ end. Gathers most entries.old.items entries.new.items end
         (all left (alone (known_texts texts.now.known) way.old.items text))) }
 {
@@ -209,6 +216,7 @@ pub(crate) fn expand_line(
     ensures read { OnOk result (AreMets (known_texts texts.now.known) reading.new.lists.items) }
     ensures way { OnOk result (way.new.items ≡ way.old.items) }
     ensures extends { OnOk result (Extends entries.old.items entries.new.items) }
+    ensures within { OnOk result (KeepsWithin most entries.old.items entries.new.items) }
     ensures gathers { IfOk result (λ end. Gathers most entries.old.items entries.new.items end
         (line_outcomes (enter_with left) (alone (known_texts texts.now.known) way.old.items source.text) state source line)) }
 {

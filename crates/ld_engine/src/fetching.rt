@@ -32,7 +32,7 @@ fn place_of(folder: Folder) -> Place
     ensures { result ≡ place_of folder }
 {
     match folder {
-        Folder::Model => Place::Model,
+        Folder::Model(_) => Place::Model,
         Folder::Parts => Place::Parts,
         Folder::P => Place::P,
     }

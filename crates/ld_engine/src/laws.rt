@@ -1,4 +1,4 @@
-ghost use Rattle.ld_engine.specs.Laws.{LearningStands, MainIsFirst, MainIsThere, StandsForRoots, StepsOfAnswers};
+ghost use Rattle.ld_engine.specs.Laws.{IsFoundUnlessAbsent, LearningStands, MainIsFirst, MainIsThere, StandsForRoots, StepsOfAnswers};
 
 use ld_entry::{count_law, standing_law};
 use ld_mpd::block_laws;
@@ -12,6 +12,15 @@ pub fn root_law()
 {
     number_law();
     standing_law();
+}
+
+/// Where nothing is wanted for a root, a name in a text that it reaches is found unless it is absent in
+/// every folder: a reference is at fault as missing exactly there.
+pub fn missing_law()
+    ensures { IsFoundUnlessAbsent }
+{
+    number_law();
+    lookup_law();
 }
 
 /// The steps of an answer are at least one, their ranges follow one another and cover its entries,

@@ -46,6 +46,7 @@ impl Workspace {
         ensures stops { IfErr result (λ stop. StopsFor self.old.limits (wanted_for root.now) self.new.texts.known stop) }
         ensures told { IfSome (S.files shelf.old) (λ files. ToldFor self.old.limits files (wanted_for root.now) self.old.texts.known self.new.texts.known result) }
         ensures shelf { IsOnlyRead (S.files shelf.old) (S.files shelf.new) (S.faults shelf.old) (S.faults shelf.new) (result ≡ Err LearnStop.ReadFault) }
+        ensures unread { wanted_for root.now self.old.texts.known ≡ None → shelf.new ≡ shelf.old }
     {
         number_law();
         learning_law();
@@ -67,6 +68,7 @@ impl Workspace {
         ensures stops { IfErr result (λ stop. StopsFor self.old.limits (wanted_for root.now) self.new.texts.known stop) }
         ensures told { IfSome (S.files shelf.old) (λ files. Tells self.old.limits files (wanted_for root.now) self.old.texts.known self.new.texts.known result) }
         ensures shelf { IsOnlyRead (S.files shelf.old) (S.files shelf.new) (S.faults shelf.old) (S.faults shelf.new) (result ≡ Err LearnStop.ReadFault) }
+        ensures unread { wanted_for root.now self.old.texts.known ≡ None → shelf.new ≡ shelf.old }
     {
         if let Some(id) = self.texts().id(root) {
             return Ok(id);
@@ -101,6 +103,7 @@ impl Workspace {
         ensures told { IfSome (S.files shelf.old) (λ files. (wants : Wanting) → wants self.old.texts.known ≡ Some file.now →
             Tells self.old.limits files wants self.old.texts.known self.new.texts.known result) }
         ensures shelf { IsOnlyRead (S.files shelf.old) (S.files shelf.new) (S.faults shelf.old) (S.faults shelf.new) (result ≡ Err LearnStop.ReadFault) }
+        ensures unfetched { length self.old.texts.known ≡ self.old.limits.texts → shelf.new ≡ shelf.old }
     {
         let file = file.copy(self.alloc)?;
         self.learn_file(shelf, file)
@@ -117,6 +120,7 @@ impl Workspace {
         ensures told { IfSome (S.files shelf.old) (λ files. (wants : Wanting) → wants self.old.texts.known ≡ Some file →
             Tells self.old.limits files wants self.old.texts.known self.new.texts.known result) }
         ensures shelf { IsOnlyRead (S.files shelf.old) (S.files shelf.new) (S.faults shelf.old) (S.faults shelf.new) (result ≡ Err LearnStop.ReadFault) }
+        ensures unfetched { length self.old.texts.known ≡ self.old.limits.texts → shelf.new ≡ shelf.old }
     {
         let limits = self.limits();
         if self.texts().known() == limits.texts {

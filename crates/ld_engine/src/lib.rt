@@ -22,6 +22,7 @@ mod learning;
 mod limits;
 mod loading;
 mod met;
+mod moving;
 mod reading;
 mod root;
 mod seen;
@@ -30,7 +31,7 @@ mod workspace;
 
 pub use asking::{Answer, AnswerError};
 pub use editing::EditError;
-pub use laws::{first_law, learnt_law, main_law, root_law, steps_law};
+pub use laws::{first_law, learnt_law, main_law, missing_law, root_law, steps_law};
 pub use limits::{Limits, OpenError};
 pub use loading::LoadError;
 pub use workspace::Workspace;

@@ -107,7 +107,7 @@ impl Workspace {
             return Ok(());
         }
         let file = FileId {
-            folder: Folder::Model,
+            folder: Folder::Model(1),
             name: block.name,
         };
         match self.texts.prepare_file(&file, Some(block.lines)) {

@@ -1,5 +1,5 @@
 // The root of an answer: its lines, and what they give below nothing.
-ghost use Rattle.std.specs.Prelude.{◌≡◌, ◌≤◌, ◌<◌, ◌∷◌, ◌^◌, [], IfOk, None, length, map};
+ghost use Rattle.std.specs.Prelude.{◌≡◌, ◌≤◌, ◌<◌, ◌+◌, ◌∷◌, ◌^◌, [], IfOk, None, length, map};
 ghost use Rattle.ld_entry.specs.NumberedTexts.{known_texts};
 ghost use Rattle.ld_entry.specs.Outcomes.{all, all_by_line};
 ghost use Rattle.ld_engine.specs.Gathering.{Gathers, alone};
@@ -54,6 +54,7 @@ pub(crate) fn expand_root(
     requires read { lines.items ≡ (known_texts texts.now.known).lines root }
     requires few { length lines.items < 2 ^ 32 }
     ensures gathers { IfOk result (λ given. Gathers most [] given.entries.items given.end (all left (alone (known_texts texts.now.known) [] root))) }
+    ensures within { IfOk result (λ given. length given.entries.items ≤ most + 1) }
     ensures ends { IfOk result (λ given. given.end ≡ None → length given.entries.items ≤ most →
         given.line_ends.items ≡ 0 ∷ line_ends 0 (map length (all_by_line left (alone (known_texts texts.now.known) [] root)))) }
 {

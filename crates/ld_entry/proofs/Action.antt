@@ -119,7 +119,7 @@ module _ (unders : UnderLaws) (withs : WithLaws) where
 
   part-acted : (outer : Above) (context : Context) (source : Source) (word : ℕ) (file : TextId) → part_outcomes (further_below outer context) source word file ≡ map (carried_outcome outer) (part_outcomes context source word file)
   part-acted outer context source word file =
-      if_part outer (not (context.texts.is_part context.text) && context.texts.is_part file) _ (carried_entry context.above (Part file (colour_of word) source) ∷ []) (ap (λ o. o ∷ []) (carried_entry-beneath outer context.above (Part file (colour_of word) source)))
+      if_part outer (not (context.texts.is_part context.text) && context.texts.is_part file) _ (carried_entry context.above (Part (context.texts.target file) (colour_of word) source) ∷ []) (ap (λ o. o ∷ []) (carried_entry-beneath outer context.above (Part (context.texts.target file) (colour_of word) source)))
 
   file_outcomes-acted : (outer : Above) (enter : Enter) → Acts outer enter → (context : Context) (state : State) (source : Source) (word : ℕ) (placement : Placement) (file : TextId) → file_outcomes enter (further_below outer context) state source word placement file ≡ map (carried_outcome outer) (file_outcomes enter context state source word placement file)
   file_outcomes-acted outer None acts context state source word placement file = refl

@@ -56,6 +56,7 @@ unfolding itself
 agree-itself inside texts other agree = record {
   lines = λ text within. subst (StandFor inside itself texts other text (texts.lines text)) (sym (agree.lines text within)) (lines-stand inside texts other text (texts.lines text) (agree.finds text within));
   is_part = agree.is_part;
+  target = agree.target;
   apart = λ text file in_text in_file same. same;
 }
 

@@ -6,6 +6,7 @@ use Rattle.ld_names.specs.Normal.{normal_of}
 use Rattle.ld_names.specs.Standing.{find, folders_of, known_map, same_file, standing}
 use Rattle.ld_line.specs.Colour.{colour_word}
 use Rattle.ld_line.specs.Field.{after_field, fields}
+use Rattle.ld_line.specs.Moved.{moved_line, moved_reference, moved_to, target}
 use Rattle.ld_line.specs.Part.{is_part_text}
 use Rattle.ld_line.specs.Reading.{line_of}
 use Rattle.ld_bfc.specs.LineState.{next}
@@ -17,11 +18,12 @@ use Rattle.ld_entry.specs.Expansion.{neutral_expansion}
 use Rattle.ld_entry.specs.Heights.{height}
 use Rattle.ld_entry.specs.Outcomes.{all_by_line}
 use Rattle.ld_entry.specs.KeptRows as kept
+use Rattle.ld_entry.specs.MovedRows as moved_row
 use Rattle.ld_entry.specs.Rows as row
 
 -- what an answer computes with
 values : ℕ
-unfolding answer neutral_expansion all_by_line line_of fields after_field colour_word is_part_text dec_of millionths_of numeral_of powers_of normal_of find folders_of known_map same_file standing below next colour_of moved_points is_mirrored moved
+unfolding answer neutral_expansion all_by_line line_of fields after_field colour_word is_part_text moved_line moved_reference moved_to target dec_of millionths_of numeral_of powers_of normal_of find folders_of known_map same_file standing below next colour_of moved_points is_mirrored moved
 values = 0
 
 pub rounding_at_each_reference : row.RoundingAtEachReference
@@ -189,3 +191,29 @@ one_entry_more_than_allowed = (refl, refl, refl)
 pub as_many_entries_as_allowed : kept.AsManyEntriesAsAllowed
 unfolding values
 as_many_entries_as_allowed = refl
+
+-- ---- Moved parts.
+
+pub moved_part : moved_row.MovedPart
+unfolding values
+moved_part = refl
+
+pub targets_over_walks : moved_row.TargetsOverWalks
+unfolding values
+targets_over_walks = (refl, refl, refl, refl)
+
+pub no_targets : moved_row.NoTargets
+unfolding values
+no_targets = (refl, refl, refl, refl, refl, refl)
+
+pub moved_cycle : moved_row.MovedCycle
+unfolding values
+moved_cycle = (refl, refl)
+
+pub moves_of64 : moved_row.MovesOf64
+unfolding values
+moves_of64 = refl
+
+pub moves_of65 : moved_row.MovesOf65
+unfolding values
+moves_of65 = refl

@@ -27,8 +27,9 @@ named texts text other (Ref word placement (Some name) ∷ lines) found =
     one (Some file) (suc place, within, is) = absurd (omega arith)
 named texts text other (line ∷ lines) found = named texts text other lines found
 
-module _ (finds : FindsExactly) (equality : IsFileEquality) where
-  numbered : (files : List FileId) (file : FileId) (other : TextId) → option_map (λ place. let id : TextId = record { 0 = place } in id) (position (same_file file) files) ≡ Some other → slice_get files other.0 ≡ Some file
+module _ (equality : IsFileEquality) where
+  -- a file's number is its place among the files
+  pub numbered : (files : List FileId) (file : FileId) (other : TextId) → option_map (λ place. let id : TextId = record { 0 = place } in id) (position (same_file file) files) ≡ Some other → slice_get files other.0 ≡ Some file
   numbered files file other is = by (position (same_file file) files) refl is
     where
       by : (place : Option ℕ) → position (same_file file) files ≡ place → option_map (λ n. let id : TextId = record { 0 = n } in id) place ≡ Some other → slice_get files other.0 ≡ Some file
@@ -38,12 +39,13 @@ module _ (finds : FindsExactly) (equality : IsFileEquality) where
           let first = position-Some (same_file file) files place file at in
           ap (slice_get files) (sym number) ∙ slice_get-get_or files place file first.0 ∙ ap Some (sym ((equality.same file (get_or files place file)).0 first.1))
 
+module _ (finds : FindsExactly) (equality : IsFileEquality) where
   there : (texts : Map) (files : List FileId) (name : List ℕ) (from : Option FileId) (other : TextId) → found_from texts files name from ≡ Some other → (file : FileId) × (slice_get files other.0 ≡ Some file) × IsThere texts file
   there texts files name None other is = cc
   there texts files name (Some from) other is = by (find texts from.folder name) refl is
     where
       by : (found : Found) → find texts from.folder name ≡ found → text_id_of files found ≡ Some other → (file : FileId) × (slice_get files other.0 ≡ Some file) × IsThere texts file
-      by (Present file) at is = (file, numbered files file other is, ((finds.present texts from.folder name file).0 at).2)
+      by (Present file) at is = (file, numbered equality files file other is, ((finds.present texts from.folder name file).0 at).2)
       by Absent at is = cc
       by (Unknown folder) at is = cc
 

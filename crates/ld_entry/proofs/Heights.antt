@@ -15,7 +15,7 @@ use Rattle.ld_entry.specs.NumberedTexts.{NumberedTexts}
 -- ---- Walks.
 
 -- a first line adds what it finds to what the others find
-found_among-more : (texts : NumberedTexts) (text other : TextId) (line : Line) (lines : List Line) → Contains (found_among texts text lines) other → Contains (found_among texts text (line ∷ lines)) other
+pub found_among-more : (texts : NumberedTexts) (text other : TextId) (line : Line) (lines : List Line) → Contains (found_among texts text lines) other → Contains (found_among texts text (line ∷ lines)) other
 found_among-more texts text other (Ref word placement (Some name)) lines found = Contains-append_right (option_to_list (texts.found text name)) (found_among texts text lines) other found
 found_among-more texts text other line lines found = found
 

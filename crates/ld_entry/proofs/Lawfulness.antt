@@ -93,7 +93,7 @@ module _ (laws : LawfulColours) where
 
   part-lawful : (context : Context) → IsLawfulContext context → (source : Source) (word : ℕ) (file : TextId) → AreLawful (part_outcomes context source word file)
   part-lawful context lawful source word file =
-      either (not (context.texts.is_part context.text) && context.texts.is_part file) (carried_entry context.above (Part file (colour_of word) source) ∷ []) [] (one _ (carried_entry-lawful context.above (Part file (colour_of word) source) lawful.0 (laws.of_words word))) (All-nil IsLawfulOutcome)
+      either (not (context.texts.is_part context.text) && context.texts.is_part file) (carried_entry context.above (Part (context.texts.target file) (colour_of word) source) ∷ []) [] (one _ (carried_entry-lawful context.above (Part (context.texts.target file) (colour_of word) source) lawful.0 (laws.of_words word))) (All-nil IsLawfulOutcome)
 
   file_outcomes-lawful : (enter : Enter) → EntersLawful enter → (context : Context) → IsLawfulContext context → (state : State) (source : Source) (word : ℕ) (placement : Placement) (file : TextId) → AreLawful (file_outcomes enter context state source word placement file)
   file_outcomes-lawful None enters context lawful state source word placement file = one (fault_at TooDeep source) tt

@@ -11,9 +11,11 @@ pub mod Links
 pub mod Counts
 pub mod Cuts
 pub mod Ends
+pub mod Maps
 pub mod LineEnds
 pub mod Reached
 pub mod Standing
+pub mod Leading
 pub mod Zeros
 pub mod Lawfulness
 pub mod Moving

@@ -1,18 +1,15 @@
 -- The ends of lines in the expansion of a root that is answered.
-use Rattle.std.proofs.Common.{◌≡◌, ◌≤◌, ◌+◌, ℕ, zero, suc, List, [], ◌∷◌, ◌++◌, length, map, Option, Some, None, Result, Ok, Err, refl, ap, sym, ◌∙◌, append_assoc, append-nil, arith}
+use Rattle.std.proofs.Common.{◌≡◌, ◌≤◌, ◌+◌, ℕ, zero, suc, List, [], ◌∷◌, ◌++◌, length, map, Option, Some, None, Ok, Err, refl, ap, sym, ◌∙◌, append_assoc, arith}
 use Rattle.std.specs.Prelude.{slice_get}
 use Rattle.std.proofs.lemmas.List.{length-append, length-map, take_all}
 use Rattle.ld_bfc.specs.Laws.{WithLaws}
 use Rattle.ld_colour.specs.Laws.{UnderLaws}
-use Rattle.ld_colour.specs.declared.colour.Colour.{Colour}
-use Rattle.ld_names.specs.declared.file.TextId.{TextId}
 use Rattle.ld_entry.proofs.Action.{acted, beneath-nothing, map-concatenation}
 use Rattle.ld_entry.proofs.Counts.{all-entries, no-faults}
 use Rattle.ld_entry.specs.Answers.{answer, answer_by, entries_before, first_fault, left_below, outcome_counts, root_outcomes, running_sums, unless_too_many}
 use Rattle.ld_entry.specs.Carrying.{Above, carried_entry, carried_outcome, colour_above, nothing_above, Outcome}
 use Rattle.ld_entry.specs.Expansion.{ends_behind, first_entries, neutral_expansion}
 use Rattle.ld_entry.specs.Laws.{LineEndsLaw}
-use Rattle.ld_entry.specs.NumberedTexts.{NumberedTexts}
 use Rattle.ld_entry.specs.Outcomes.{all_by_line, concatenation, context_of}
 use Rattle.ld_entry.specs.declared.entry.Entry.{Entry}
 use Rattle.ld_entry.specs.declared.entry.Fault.{Fault}

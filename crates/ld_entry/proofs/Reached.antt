@@ -18,7 +18,7 @@ use Rattle.ld_texts.specs.Known.{AreDistinct, file_at, id_of, lines_at}
 use Rattle.ld_texts.specs.Laws.{NumbersAgree}
 use Rattle.ld_texts.specs.Reach.{file_reaches, going_on, line_reaches, lines_in, lines_reach, reach, Reached, reached_by, Reaches, texts_reach, wanted_in, Wants, with_found, with_reached}
 use Rattle.ld_entry.specs.Laws.{ReachedLaw}
-use Rattle.ld_entry.specs.Learnt.{FindsInside, is_among, IsClosed, IsLearnt, WantsNothing}
+use Rattle.ld_entry.specs.Learnt.{FindsInside, is_among, IsLearnt, WantsNothing}
 use Rattle.ld_entry.specs.NumberedTexts.{found_from, known_files, known_texts, lines_of_file, text_id_of}
 use Rattle.ld_entry.specs.NumberedTexts as numbered
 
@@ -35,12 +35,12 @@ get-map f [] n = refl
 get-map f (x ∷ xs) zero = refl
 get-map f (x ∷ xs) (suc n) = get-map f xs n
 
-files-at : (known : Known) (n : ℕ) → slice_get (known_files known) n ≡ file_at known n
+pub files-at : (known : Known) (n : ℕ) → slice_get (known_files known) n ≡ file_at known n
 unfolding file_at
 files-at known n = get-map (λ entry. entry.0) known n
 
 -- the number of a file
-number-of : (known : Known) (file : FileId) → text_id_of (known_files known) (Present file) ≡ option_map (λ n. record { 0 = n }) (id_of known file)
+pub number-of : (known : Known) (file : FileId) → text_id_of (known_files known) (Present file) ≡ option_map (λ n. record { 0 = n }) (id_of known file)
 unfolding id_of
 number-of known file = refl
 

@@ -155,7 +155,7 @@ module _ (inside : TextId → Bool) (rename : TextId → TextId) (texts other : 
 
   part-renamed : (way : List TextId) (text file : TextId) (above : Above) (source : Source) (word : ℕ) → inside text ≡ true → inside file ≡ true → part_outcomes (context_of other (map rename way) (rename text) (renamed_above rename above)) (renamed_source rename source) word (rename file) ≡ map (renamed_outcome rename) (part_outcomes (context_of texts way text above) source word file)
   part-renamed way text file above source word in_text in_file =
-      rw (agrees.is_part text in_text, agrees.is_part file in_file) (if-renamed rename (not (texts.is_part text) && texts.is_part file) _ _ _ _ (ap (λ o. o ∷ []) (entry-renamed rename above (Part file (colour_of word) source))) refl)
+      rw (agrees.is_part text in_text, agrees.is_part file in_file, agrees.target file in_file) (if-renamed rename (not (texts.is_part text) && texts.is_part file) _ _ _ _ (ap (λ o. o ∷ []) (entry-renamed rename above (Part (texts.target file) (colour_of word) source))) refl)
 
   abbrev pub SameAt : ℕ → Type 0
   SameAt left = (way : List TextId) (text : TextId) (above : Above) → Tells inside rename way → inside text ≡ true → all_by_line left (context_of other (map rename way) (rename text) (renamed_above rename above)) ≡ map (map (renamed_outcome rename)) (all_by_line left (context_of texts way text above)) ++ further (texts.lines text) (other.lines (rename text))

@@ -1,11 +1,14 @@
 -- Texts that agree on a set that no reference leaves, under the same numbers or under others.
-use Rattle.std.specs.Prelude.{◌≡◌, ℕ, Bool, true, List, [], ◌∷◌, map, Some, Result, Ok, Err, option_map, ⊤}
+use Rattle.std.specs.Prelude.{◌≡◌, ℕ, Bool, true, List, [], ◌∷◌, map, Some, Result, Ok, Err, option_map, slice_get, ⊤}
+use Rattle.ld_names.specs.Standing.{find, Found, Map, Present}
+use Rattle.ld_names.specs.declared.file.FileId.{FileId}
+use Rattle.ld_names.specs.declared.file.Folder.{Folder}
 use Rattle.ld_names.specs.declared.file.TextId.{TextId}
 use Rattle.ld_line.specs.declared.line.Line.{Line}
 use Rattle.ld_line.specs.declared.line.Line.TheVariants.{Org, Ref}
 use Rattle.ld_entry.specs.Carrying.{Above, Link, Outcome}
 use Rattle.ld_entry.specs.Learnt.{FindsInside}
-use Rattle.ld_entry.specs.NumberedTexts.{NumberedTexts}
+use Rattle.ld_entry.specs.NumberedTexts.{lines_of_file, NumberedTexts, text_id_of}
 use Rattle.ld_entry.specs.declared.entry.Entry.{Entry}
 use Rattle.ld_entry.specs.declared.entry.Entry.TheVariants.{Drawn, Part}
 use Rattle.ld_entry.specs.declared.entry.Fault.{Fault}
@@ -24,7 +27,35 @@ FindsSame inside texts other text (line ∷ lines) = FindsSame inside texts othe
 pub record Agree (inside : TextId → Bool) (texts other : NumberedTexts) : Type 0 where
   pub lines : (text : TextId) → inside text ≡ true → other.lines text ≡ texts.lines text
   pub is_part : (text : TextId) → inside text ≡ true → other.is_part text ≡ texts.is_part text
+  pub target : (text : TextId) → inside text ≡ true → other.target text ≡ texts.target text
   pub finds : (text : TextId) → inside text ≡ true → FindsSame inside texts other text (texts.lines text)
+
+-- ---- The same numbers, by the files.
+
+-- what a look-up finds has a number, which is inside
+abbrev pub FoundInside : (TextId → Bool) → List FileId → Found → Type 0
+FoundInside inside files (Present file) = (text : TextId) × (text_id_of files (Present file) ≡ Some text) × (inside text ≡ true)
+FoundInside inside files found = ⊤
+
+-- the names in the references among lines of a file of this folder find the same files, which are inside
+abbrev pub FindsSameFiles : (TextId → Bool) → Map → Map → List FileId → Folder → List Line → Type 0
+FindsSameFiles inside texts other files folder [] = ⊤
+FindsSameFiles inside texts other files folder (Ref word placement (Some name) ∷ lines) =
+    (find other folder name ≡ find texts folder name) × FoundInside inside files (find texts folder name) × FindsSameFiles inside texts other files folder lines
+FindsSameFiles inside texts other files folder (line ∷ lines) = FindsSameFiles inside texts other files folder lines
+
+-- a text is of the same file, which has the same number and is the same, and whose references find the same files
+pub record IsSameText (inside : TextId → Bool) (texts other : Map) (files others : List FileId) (text : TextId) : Type 0 where
+  pub file : FileId
+  pub at : slice_get files text.0 ≡ Some file
+  pub at_other : slice_get others text.0 ≡ Some file
+  pub number : text_id_of others (Present file) ≡ text_id_of files (Present file)
+  pub lines : other file ≡ texts file
+  pub finds : FindsSameFiles inside texts other files file.folder (lines_of_file texts (Some file))
+
+-- two maps say the same of the texts inside, which no reference leaves
+abbrev pub MapsAgree : (TextId → Bool) → Map → Map → List FileId → List FileId → Type 0
+MapsAgree inside texts other files others = (text : TextId) → inside text ≡ true → IsSameText inside texts other files others text
 
 -- ---- Other numbers.
 
@@ -73,4 +104,5 @@ StandFor inside rename texts other text (line ∷ lines) (replacement ∷ replac
 pub record AgreeAs (inside : TextId → Bool) (rename : TextId → TextId) (texts other : NumberedTexts) : Type 0 where
   pub lines : (text : TextId) → inside text ≡ true → StandFor inside rename texts other text (texts.lines text) (other.lines (rename text))
   pub is_part : (text : TextId) → inside text ≡ true → other.is_part (rename text) ≡ texts.is_part text
+  pub target : (text : TextId) → inside text ≡ true → other.target (rename text) ≡ rename (texts.target text)
   pub apart : (text file : TextId) → inside text ≡ true → inside file ≡ true → rename text ≡ rename file → text ≡ file

@@ -1,5 +1,5 @@
 -- How deep the references below a text go, and when a text is low under a way.
-use Rattle.std.specs.Prelude.{◌≤◌, ◌+◌, ◌++◌, ℕ, zero, suc, max, List, [], ◌∷◌, length, Some, option_to_list, ⊤}
+use Rattle.std.specs.Prelude.{◌≡◌, ◌≤◌, ◌+◌, ◌++◌, ℕ, zero, suc, max, List, [], ◌∷◌, length, Some, option_to_list, ⊤}
 use Rattle.std.specs.List.{Contains}
 use Rattle.ld_names.specs.declared.file.TextId.{TextId}
 use Rattle.ld_line.specs.declared.line.Line.{Line}
@@ -34,6 +34,11 @@ abbrev pub IsWalk : NumberedTexts → List TextId → Type 0
 IsWalk texts [] = ⊤
 IsWalk texts (text ∷ []) = ⊤
 IsWalk texts (text ∷ next ∷ rest) = Refers texts text next × IsWalk texts (next ∷ rest)
+
+-- references lead from a text, over these texts, to another, which is the last of them
+abbrev pub LeadsBy : NumberedTexts → List TextId → TextId → TextId → Type 0
+LeadsBy texts [] text other = text ≡ other
+LeadsBy texts (next ∷ rest) text other = Refers texts text next × LeadsBy texts rest next other
 
 -- a text is low under a way, which ends before it
 abbrev pub IsLow : NumberedTexts → ℕ → List TextId → TextId → Type 0

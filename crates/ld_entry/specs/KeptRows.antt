@@ -1,5 +1,5 @@
 -- Worked expansions of texts by themselves and under ways, and the heights of these texts.
-use Rattle.std.specs.Prelude.{◌≡◌, ℕ, suc, ◌+◌, false, true, pos, List, [], ◌∷◌, ◌++◌, map, replicate, Option, Some, None, codes}
+use Rattle.std.specs.Prelude.{◌≡◌, ℕ, suc, false, true, pos, List, [], ◌∷◌, ◌++◌, map, replicate, Option, Some, None, codes}
 use Rattle.ld_names.specs.Standing.{Known}
 use Rattle.ld_line.specs.declared.line.Kind.TheVariants.{Line2}
 use Rattle.ld_line.specs.declared.line.Winding.TheVariants.{Ccw}

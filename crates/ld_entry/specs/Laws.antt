@@ -15,11 +15,11 @@ use Rattle.ld_bfc.specs.declared.culling.State.{State}
 use Rattle.ld_colour.specs.Colour.{is_lawful, under}
 use Rattle.ld_colour.specs.declared.colour.Colour.{Colour}
 use Rattle.ld_colour.specs.declared.colour.Colour.TheVariants.{Code}
-use Rattle.ld_entry.specs.Agreement.{Agree, AgreeAs, renamed_above, renamed_answer, renamed_outcome}
+use Rattle.ld_entry.specs.Agreement.{Agree, AgreeAs, MapsAgree, renamed_above, renamed_answer, renamed_outcome}
 use Rattle.ld_entry.specs.Answers.{answer, answer_by, answer_of, until_end, entries_before, first_fault, left_below, outcome_counts, running_sums}
 use Rattle.ld_entry.specs.Carrying.{Above, above_of, beneath, carried_entry, carried_outcome, nothing_above, Outcome}
 use Rattle.ld_entry.specs.Expansion.{end_of, expansion_of, first_entries, neutral_expansion}
-use Rattle.ld_entry.specs.Heights.{found_by, height, IsLow, IsWalk, Refers, tallest}
+use Rattle.ld_entry.specs.Heights.{found_by, height, IsLow, IsWalk, LeadsBy, Refers, tallest}
 use Rattle.ld_entry.specs.Lawful.{IsLawfulEntry, IsLawfulOutcome}
 use Rattle.ld_entry.specs.Learnt.{IsClosed, IsLearnt}
 use Rattle.ld_entry.specs.NumberedTexts.{known_texts, NumberedTexts, standing_texts, texts_over}
@@ -145,6 +145,10 @@ LineEndsLaw =
 abbrev pub ReachedLaw : Type 0
 ReachedLaw = (known : Known) (root : FileId) (id : ℕ) → AreDistinct known → id_of known root ≡ Some id → wanted known root ≡ None → IsLearnt known root id
 
+-- Among known texts, references lead to the part at which moves end.
+abbrev pub TargetLaw : Type 0
+TargetLaw = (known : Known) (text : TextId) → AreDistinct known → (rest : List TextId) × LeadsBy (known_texts known) rest text ((known_texts known).target text)
+
 -- Where nothing is wanted, the known texts give what the texts as they stand give, whatever the shelf has.
 pub record StandingLaw : Type 0 where
   pub outcomes : (inside : TextId → Bool) (known : Known) (shelf : FileId → Text) → IsClosed inside known → (left : ℕ) (way : List TextId) (text : TextId) (above : Above) → inside text ≡ true → all_by_line left (context_of (standing_texts known shelf) way text above) ≡ all_by_line left (context_of (known_texts known) way text above)
@@ -201,6 +205,10 @@ pub record AgreementLaw : Type 0 where
   pub answers : (inside : TextId → Bool) (texts other : NumberedTexts) → Agree inside texts other → (depth most : ℕ) (root : TextId) (colour : Colour) → inside root ≡ true → answer other depth most root colour ≡ answer texts depth most root colour
   pub expansions : (inside : TextId → Bool) (texts other : NumberedTexts) → Agree inside texts other → (depth most : ℕ) (way : List TextId) (text : TextId) → inside text ≡ true → neutral_expansion other depth most way text ≡ neutral_expansion texts depth most way text
   pub heights : (inside : TextId → Bool) (texts other : NumberedTexts) → Agree inside texts other → (bound : ℕ) (text : TextId) → inside text ≡ true → height bound other text ≡ height bound texts text
+
+-- So do the texts of two maps that say the same of the files inside.
+abbrev pub MapsLaw : Type 0
+MapsLaw = (inside : TextId → Bool) (texts other : Map) (files others : List FileId) → MapsAgree inside texts other files others → Agree inside (texts_over texts files) (texts_over other others)
 
 -- Under other numbers they give the same, with these numbers in it.
 pub record RenamingLaw : Type 0 where

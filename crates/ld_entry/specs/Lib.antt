@@ -10,3 +10,4 @@ pub mod Lawful
 pub mod Laws
 pub mod Rows
 pub mod KeptRows
+pub mod MovedRows

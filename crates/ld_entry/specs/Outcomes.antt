@@ -58,10 +58,11 @@ outer_of state source word placement =
 abbrev pub context_below : Context → Outer → TextId → Context
 context_below context outer file = context_of context.texts (way_with_text context) file (beneath context.above (above_of outer))
 
--- a part text is an entry of its own where the text that refers to it is none
+-- A part text is an entry of its own where the text that refers to it is none. The entry is of the part at which moves
+-- end; what the text itself gives comes behind it.
 abbrev pub part_outcomes : Context → Source → ℕ → TextId → List Outcome
 part_outcomes context source word file =
-    if not (context.texts.is_part context.text) && context.texts.is_part file then carried_entry context.above (Part file (colour_of word) source) ∷ [] else []
+    if not (context.texts.is_part context.text) && context.texts.is_part file then carried_entry context.above (Part (context.texts.target file) (colour_of word) source) ∷ [] else []
 
 -- a reference to a file that is there and not on the way
 abbrev pub file_outcomes : Enter → Context → State → Source → ℕ → Placement → TextId → List Outcome

@@ -1,4 +1,4 @@
-ghost use Rattle.ld_entry.specs.Laws.{ActionLaw, AgreementLaw, CarryLaws, CountLaw, CutLaws, EndsLaws, FoundLaw, HeightLaws, LawfulLaw, LineEndsLaw, LineLaws, LinkLaw, LowerLaw, ReachedLaw, RenamingLaw, ReuseLaw, StandingLaw, TintLaw, WalkLaws, WayLaw};
+ghost use Rattle.ld_entry.specs.Laws.{ActionLaw, AgreementLaw, CarryLaws, CountLaw, CutLaws, EndsLaws, FoundLaw, HeightLaws, LawfulLaw, LineEndsLaw, LineLaws, LinkLaw, LowerLaw, MapsLaw, ReachedLaw, RenamingLaw, ReuseLaw, StandingLaw, TargetLaw, TintLaw, WalkLaws, WayLaw};
 
 use ld_bfc::{state_laws, with_laws};
 use ld_colour::{lawful_colours, under_laws};
@@ -79,6 +79,15 @@ pub fn reached_law()
     number_law();
 }
 
+/// Among known texts, references lead to the part at which moves end.
+pub fn target_law()
+    ensures { TargetLaw }
+{
+    number_law();
+    lookup_law();
+    file_laws();
+}
+
 /// Where nothing is wanted, the known texts give what the texts as they stand give.
 pub fn standing_law()
     ensures { StandingLaw }
@@ -132,6 +141,13 @@ pub fn reuse_law()
 pub fn agreement_law()
     ensures { AgreementLaw }
 {}
+
+/// So do the texts of two maps that say the same of the files inside, whatever stands elsewhere.
+pub fn maps_law()
+    ensures { MapsLaw }
+{
+    file_laws();
+}
 
 /// Texts that agree under other numbers give the same, with these numbers in it.
 pub fn renaming_law()

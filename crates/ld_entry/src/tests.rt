@@ -1,9 +1,11 @@
 //! Entries below references, and worked models by the definition of recursive expansion.
 ghost use Rattle.ld_entry.specs.KeptRows.{AboveTheDepth, AsManyEntriesAsAllowed, AtTheDepth, CycleIsHigh, EndBehindAnOuterRange, HeightsOfModels, InTheMainColour, OneEntryMoreThanAllowed};
+ghost use Rattle.ld_entry.specs.MovedRows.{MovedCycle, MovedPart, MovesOf64, MovesOf65, NoTargets, TargetsOverWalks};
 ghost use Rattle.ld_entry.specs.Rows.{AbsentRoot, AsManyAsAllowed, CertificationPassed, CertificationRefused, CertificationStopped, ChainOf64, ChainOf65, ClipAndWinding, Colours, CycleFromTheFirst, CycleFromTheSecond, DepthOfOne, DepthOfThree, DepthOfTwo, DirectColours, EarlierFaultFromOutside, EndsOfAnOrdinaryModel, FirstOfAnOrdinaryModel, InvertnextAndMirror, MatrixOfZeros, MirrorAlone, NameWithoutNormalForm, NoFaultFromOutside, NoLineType, NumberOutOfRange, OneEntryAllowed, OneTooMany, OnlyEntryAllowed, ReferenceToItself, ReferenceWithoutFile, RootWithoutLines, RoundingAtEachReference, UnknownRoot};
 
 mod colours;
 mod lines;
+mod moved;
 mod names;
 mod numbers;
 mod states;
@@ -285,6 +287,16 @@ fn kept_expansions()
     ensures end_behind_an_outer_range { EndBehindAnOuterRange }
     ensures one_entry_more_than_allowed { OneEntryMoreThanAllowed }
     ensures as_many_entries_as_allowed { AsManyEntriesAsAllowed }
+{}
+
+// Parts that moved.
+fn moved_parts()
+    ensures moved_part { MovedPart }
+    ensures targets_over_walks { TargetsOverWalks }
+    ensures no_targets { NoTargets }
+    ensures moved_cycle { MovedCycle }
+    ensures moves_of64 { MovesOf64 }
+    ensures moves_of65 { MovesOf65 }
 {}
 
 // Back face culling below references.

@@ -59,11 +59,11 @@ answered-all most outcomes none few =
 
 -- ---- The only text.
 
-same-itself : (name : List ℕ) → same_file (file_in Model name) (file_in Model name) ≡ true
+same-itself : (name : List ℕ) → same_file (file_in (Model 1) name) (file_in (Model 1) name) ≡ true
 unfolding same_file
 same-itself name = (bytes_eq-Decides name name).1 refl
 
-only-known : (name : List ℕ) (lines : List (List ℕ)) → known_map ((file_in Model name, Some lines) ∷ []) (file_in Model name) ≡ Some (Some lines)
+only-known : (name : List ℕ) (lines : List (List ℕ)) → known_map ((file_in (Model 1) name, Some lines) ∷ []) (file_in (Model 1) name) ≡ Some (Some lines)
 unfolding known_map
 only-known name lines = ap (λ b. cond b (Some (Some lines)) None) (same-itself name)
 

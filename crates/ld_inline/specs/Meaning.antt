@@ -17,7 +17,7 @@ use Rattle.ld_inline.specs.Flat.{flat, Flat, shape_of, shapes_of}
 
 -- these lines as the one text there is, under a name in the model's folder
 abbrev pub only_text : List ℕ → List (List ℕ) → NumberedTexts
-only_text name lines = known_texts ((file_in Model name, Some lines) ∷ [])
+only_text name lines = known_texts ((file_in (Model 1) name, Some lines) ∷ [])
 
 abbrev pub first_text : TextId
 first_text = record { 0 = 0 }

@@ -1,7 +1,9 @@
 ghost use Rattle.std.specs.Prelude.{◌≡◌, ◌≢◌, ◌≤◌, ◌<◌, [], ◌∷◌, ◌++◌, IfOk, IfSome, MatchOption, None, OnErr, OnOk, Some, length, true};
+ghost use Rattle.std.specs.Result.{IsOk, result_ok};
+ghost use Rattle.ld_names.specs.Normal.{normal_of};
 ghost use Rattle.ld_line.specs.Block.{block_line_of};
 ghost use Rattle.ld_line.specs.Cut.{lines_from};
-ghost use Rattle.ld_line.specs.Field.{after_field};
+ghost use Rattle.ld_line.specs.Field.{after_field, after_fields};
 ghost use Rattle.ld_mpd.specs.Blocks.{BeginsSame, IsText, behind_file, block, block_at, block_name, blocks_of, firsts, has_text, inside, opening};
 ghost use Rattle.ld_mpd.specs.Seen.{HasSeen};
 
@@ -162,11 +164,22 @@ impl Found {
 fn name_behind(alloc: Global, line: &[u8], own: &Name) -> Result<Name, AllocError>
     ensures { IfOk result (λ name. name ≡ block_name own.now line.now) }
 {
+    match stated_name(alloc, line)? {
+        Some(name) => Ok(name),
+        None => own.copy(alloc),
+    }
+}
+
+// The normal form of what stands behind the second field, if that has one.
+fn stated_name(alloc: Global, line: &[u8]) -> Result<Option<Name>, AllocError>
+    ensures name { IfOk result (λ name. name ≡ result_ok (normal_of (after_fields 2 line.now))) }
+    ensures memory { OnErr result (IsOk (normal_of (after_fields 2 line.now))) }
+{
     match normal(alloc, behind_field(behind_field(line))) {
-        Ok(name) => Ok(name),
+        Ok(name) => Ok(Some(name)),
         Err(NameError::Memory) => Err(AllocError),
         Err(NameError::Empty | NameError::TooLong | NameError::NotRelative | NameError::Control) =>
-            { own.copy(alloc) }
+            { Ok(None) }
     }
 }
 

@@ -1,6 +1,6 @@
 -- The pieces of printed lines, which are this project's own. Colours are printed as File Format 1.0.2 ("Colours") writes
 -- them, but for the edge colour of a code.
-use Rattle.std.specs.Prelude.{ℕ, Bool, true, false, List, ◌++◌, Option, Some, None, codes, decimal}
+use Rattle.std.specs.Prelude.{◌==◌, ℕ, Bool, true, false, List, ◌++◌, Option, Some, None, codes, decimal, if◌then◌else◌}
 use Rattle.ld_names.specs.declared.file.FileId.{FileId}
 use Rattle.ld_names.specs.declared.file.Folder.{Folder}
 use Rattle.ld_names.specs.declared.file.Folder.TheVariants.{Model, Parts, P}
@@ -57,8 +57,9 @@ winding_text Cw = codes "cw"
 abbrev pub point_text : Point → List ℕ
 point_text point = dec_text point.x ++ codes "," ++ dec_text point.y ++ codes "," ++ dec_text point.z
 
+-- the folder of the first document is model, and that of a further one has its number
 abbrev pub folder_text : Folder → List ℕ
-folder_text Model = codes "model/"
+folder_text (Model document) = if document == 1 then codes "model/" else codes "model" ++ decimal document ++ codes "/"
 folder_text Parts = codes "parts/"
 folder_text P = codes "p/"
 

@@ -1,17 +1,17 @@
-ghost use Rattle.std.specs.Prelude.{◌≡◌, ◌++◌, codes, decimal, OnOk};
+ghost use Rattle.std.specs.Prelude.{◌≡◌, ◌++◌, codes, decimal, IfOk, OnOk};
 ghost use Rattle.ld_colour.specs.Table.{counting, rgb_in};
 ghost use Rattle.ld_texts.specs.Known.{file_at};
 ghost use Rattle.ld_report.specs.Extending.{Extends};
-ghost use Rattle.ld_report.specs.Pieces.{colour_text, folder_text, numbered_text, point_text, rgb_text, source_text};
+ghost use Rattle.ld_report.specs.Pieces.{colour_text, file_text, folder_text, numbered_text, point_text, rgb_text, source_text};
 
 use itoa::Buffer;
 use ld_colour::{Colour, Table};
 use ld_entry::Source;
 use ld_line::six_hex;
-use ld_names::{Folder, TextId};
+use ld_names::{FileId, Folder, TextId};
 use ld_num::{Point, print_dec};
 use ld_texts::Texts;
-use std::alloc::AllocError;
+use std::alloc::{AllocError, Global};
 
 #[tactic(auto, using(crate::proofs::Extending::extending), unfolding(ld_line::specs::Printing::direct_text))]
 pub(crate) fn print_colour(colour: Colour, into: &mut Vec<u8>) -> Result<(), AllocError>
@@ -97,18 +97,50 @@ pub(crate) fn print_file(texts: &Texts, id: TextId, into: &mut Vec<u8>) -> Resul
     let Some(file) = texts.file(id) else {
         return Ok(());
     };
-    into.extend_from_slice(folder_word(file.folder))?;
+    append_file(file, into)
+}
+
+/// A file as it is printed: the word of its folder, and its name.
+pub fn printed_file(alloc: Global, file: &FileId) -> Result<Vec<u8>, AllocError>
+    ensures { IfOk result (λ text. text.items ≡ file_text file.now) }
+{
+    let mut text = Vec::new(alloc);
+    append_file(file, &mut text)?;
+    Ok(text)
+}
+
+#[tactic(auto, using(crate::proofs::Extending::extending))]
+fn append_file(file: &FileId, into: &mut Vec<u8>) -> Result<(), AllocError>
+    ensures ok { OnOk result (into.new.items ≡ into.old.items ++ file_text file.now) }
+    ensures keeps { Extends into.old.items into.new.items }
+{
+    append_folder(file.folder, into)?;
     into.extend_from_slice(file.name.bytes())
 }
 
-fn folder_word(folder: Folder) -> &'static [u8]
-    ensures { result.now ≡ folder_text folder }
+#[tactic(auto, using(crate::proofs::Extending::extending))]
+fn append_folder(folder: Folder, into: &mut Vec<u8>) -> Result<(), AllocError>
+    ensures ok { OnOk result (into.new.items ≡ into.old.items ++ folder_text folder) }
+    ensures keeps { Extends into.old.items into.new.items }
 {
     match folder {
-        Folder::Model => b"model/",
-        Folder::Parts => b"parts/",
-        Folder::P => b"p/",
+        Folder::Model(1) => into.extend_from_slice(b"model/"),
+        Folder::Model(document) => append_document(document, into),
+        Folder::Parts => into.extend_from_slice(b"parts/"),
+        Folder::P => into.extend_from_slice(b"p/"),
     }
+}
+
+// The folder of a document behind the first.
+#[tactic(auto, using(crate::proofs::Extending::extending))]
+fn append_document(document: u8, into: &mut Vec<u8>) -> Result<(), AllocError>
+    ensures ok { OnOk result (into.new.items ≡ into.old.items ++ codes "model" ++ decimal document ++ codes "/") }
+    ensures keeps { Extends into.old.items into.new.items }
+{
+    into.extend_from_slice(b"model")?;
+    print_number(u64::from(document), into)?;
+    into.push(b'/')?;
+    Ok(())
 }
 
 #[tactic(auto, using(crate::proofs::Extending::extending))]

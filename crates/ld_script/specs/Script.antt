@@ -1,5 +1,5 @@
 -- Scripts: the commands that their lines say. They are this project's own; a colour word is File Format 1.0.2's.
-use Rattle.std.specs.Prelude.{◌==◌, ◌+◌, ℕ, Bool, true, false, List, [], ◌∷◌, ◌++◌, Option, Some, None, option_and_then, option_map, if◌then◌else◌, bytes_eq, codes}
+use Rattle.std.specs.Prelude.{◌==◌, ◌+◌, ℕ, Bool, true, List, [], ◌∷◌, ◌++◌, Option, Some, None, option_and_then, option_map, if◌then◌else◌, bytes_eq, codes}
 use Rattle.std.specs.List.{list_any}
 use Rattle.std.specs.Result.{result_ok}
 use Rattle.ld_line.specs.Colour.{colour_word}
@@ -20,7 +20,7 @@ use Rattle.ld_script.specs.declared.command.Query.TheVariants.{Faces, Steps, Par
 -- ---- words
 
 abbrev pub folder_by : List ℕ → Option Folder
-folder_by word = if bytes_eq word (codes "model") then Some Model else if bytes_eq word (codes "parts") then Some Parts else if bytes_eq word (codes "p") then Some P else None
+folder_by word = if bytes_eq word (codes "model") then Some (Model 1) else if bytes_eq word (codes "parts") then Some Parts else if bytes_eq word (codes "p") then Some P else None
 
 abbrev pub query_by : List ℕ → Option Query
 query_by word = if bytes_eq word (codes "faces") then Some Faces else if bytes_eq word (codes "steps") then Some Steps else if bytes_eq word (codes "parts") then Some PartList else None
@@ -53,6 +53,11 @@ command_in (word ∷ folder ∷ name ∷ []) = option_and_then (file_command wor
 command_in (word ∷ folder ∷ name ∷ number ∷ []) = option_and_then (λ file. number_command word file number) (file_by folder name)
 command_in (word ∷ folder ∷ name ∷ field ∷ text ∷ []) = option_and_then (λ file. text_command word file field text) (file_by folder name)
 command_in fields = None
+
+-- the file that a line's fields name, if they name one
+abbrev pub named_file : List (List ℕ) → Option FileId
+named_file (word ∷ folder ∷ name ∷ fields) = file_by folder name
+named_file fields = None
 
 -- ---- scripts
 

@@ -1,9 +1,9 @@
 // One line of a script.
-ghost use Rattle.std.specs.Prelude.{◌≡◌, IfOk, None, option_and_then, option_map, if◌then◌else◌};
+ghost use Rattle.std.specs.Prelude.{◌≡◌, ◌≢◌, IfOk, None, OnErr, false, option_and_then, option_map, if◌then◌else◌};
 ghost use Rattle.std.specs.List.{list_any};
 ghost use Rattle.ld_line.specs.Digits.{decimal_number};
-ghost use Rattle.ld_script.specs.Fields.{is_tab};
-ghost use Rattle.ld_script.specs.Script.{command_of, file_by, file_command, folder_by, main_query, number_command, query_by, text_command};
+ghost use Rattle.ld_script.specs.Fields.{is_tab, tabbed};
+ghost use Rattle.ld_script.specs.Script.{command_of, file_by, file_command, folder_by, main_query, named_file, number_command, query_by, text_command};
 
 use crate::command::{Command, Query, Root};
 use crate::fields::{has_tab, split_tab};
@@ -15,7 +15,8 @@ use std::alloc::{AllocError, Global};
 // The command that a line says; `None` where it says none.
 #[tactic(auto, unfolding(crate::specs::Script::command_of))]
 pub(crate) fn read_command(alloc: Global, line: &[u8]) -> Result<Option<Command>, AllocError>
-    ensures { IfOk result (λ command. command ≡ command_of line.now) }
+    ensures command { IfOk result (λ command. command ≡ command_of line.now) }
+    ensures memory { OnErr result (named_file (tabbed line.now) ≢ None) }
 {
     let Some((word, rest)) = split_tab(line) else {
         return Ok(read_main_query(line));
@@ -45,7 +46,8 @@ fn read_file_command(
     folder: &[u8],
     name: &[u8],
 ) -> Result<Option<Command>, AllocError>
-    ensures { IfOk result (λ command. command ≡ option_and_then (file_command word.now) (file_by folder.now name.now)) }
+    ensures command { IfOk result (λ command. command ≡ option_and_then (file_command word.now) (file_by folder.now name.now)) }
+    ensures memory { OnErr result (file_by folder.now name.now ≢ None) }
 {
     let Some(file) = read_file(alloc, folder, name)? else {
         return Ok(None);
@@ -72,7 +74,8 @@ fn read_number_command(
     name: &[u8],
     number: &[u8],
 ) -> Result<Option<Command>, AllocError>
-    ensures { IfOk result (λ command. command ≡ option_and_then (λ file. number_command word.now file number.now) (file_by folder.now name.now)) }
+    ensures command { IfOk result (λ command. command ≡ option_and_then (λ file. number_command word.now file number.now) (file_by folder.now name.now)) }
+    ensures memory { OnErr result (file_by folder.now name.now ≢ None) }
 {
     let Some(file) = read_file(alloc, folder, name)? else {
         return Ok(None);
@@ -100,7 +103,8 @@ fn read_text_command(
     field: &[u8],
     text: &[u8],
 ) -> Result<Option<Command>, AllocError>
-    ensures { IfOk result (λ command. command ≡ option_and_then (λ file. text_command word.now file field.now text.now) (file_by folder.now name.now)) }
+    ensures command { IfOk result (λ command. command ≡ option_and_then (λ file. text_command word.now file field.now text.now) (file_by folder.now name.now)) }
+    ensures memory { OnErr result (file_by folder.now name.now ≢ None) }
 {
     let Some(file) = read_file(alloc, folder, name)? else {
         return Ok(None);
@@ -116,7 +120,8 @@ fn text_command(
     field: &[u8],
     text: &[u8],
 ) -> Result<Option<Command>, AllocError>
-    ensures { IfOk result (λ command. command ≡ text_command word.now file field.now text.now) }
+    ensures command { IfOk result (λ command. command ≡ text_command word.now file field.now text.now) }
+    ensures memory { OnErr result (text_command word.now file field.now text.now ≢ None) }
 {
     if word == b"set".as_slice() {
         read_set(alloc, file, field, text)
@@ -135,7 +140,8 @@ fn read_set(
     line: &[u8],
     text: &[u8],
 ) -> Result<Option<Command>, AllocError>
-    ensures { IfOk result (λ command. command ≡ option_map (λ line. Command.Edit (Edit.Set file line text.now)) (decimal_number line.now)) }
+    ensures command { IfOk result (λ command. command ≡ option_map (λ line. Command.Edit (Edit.Set file line text.now)) (decimal_number line.now)) }
+    ensures memory { OnErr result (decimal_number line.now ≢ None) }
 {
     let Some(line) = read_number(line) else {
         return Ok(None);
@@ -150,7 +156,8 @@ fn read_insert(
     line: &[u8],
     text: &[u8],
 ) -> Result<Option<Command>, AllocError>
-    ensures { IfOk result (λ command. command ≡ option_map (λ line. Command.Edit (Edit.Insert file line text.now)) (decimal_number line.now)) }
+    ensures command { IfOk result (λ command. command ≡ option_map (λ line. Command.Edit (Edit.Insert file line text.now)) (decimal_number line.now)) }
+    ensures memory { OnErr result (decimal_number line.now ≢ None) }
 {
     let Some(line) = read_number(line) else {
         return Ok(None);
@@ -166,7 +173,8 @@ fn read_move(
     folder: &[u8],
     name: &[u8],
 ) -> Result<Option<Command>, AllocError>
-    ensures { IfOk result (λ command. command ≡ (if list_any is_tab name.now then None else option_map (λ to. Command.Edit (Edit.Move from to)) (file_by folder.now name.now))) }
+    ensures command { IfOk result (λ command. command ≡ (if list_any is_tab name.now then None else option_map (λ to. Command.Edit (Edit.Move from to)) (file_by folder.now name.now))) }
+    ensures memory { OnErr result ((list_any is_tab name.now ≡ false) × (file_by folder.now name.now ≢ None)) }
 {
     if has_tab(name) {
         return Ok(None);
@@ -180,7 +188,8 @@ fn read_move(
 // A file by the word of its folder and by its name; `None` where the word is another, or the name has
 // no normal form.
 fn read_file(alloc: Global, folder: &[u8], name: &[u8]) -> Result<Option<FileId>, AllocError>
-    ensures { IfOk result (λ file. file ≡ file_by folder.now name.now) }
+    ensures file { IfOk result (λ file. file ≡ file_by folder.now name.now) }
+    ensures memory { OnErr result (file_by folder.now name.now ≢ None) }
 {
     let Some(folder) = read_folder(folder) else {
         return Ok(None);
@@ -196,7 +205,7 @@ fn read_folder(word: &[u8]) -> Option<Folder>
     ensures { result ≡ folder_by word.now }
 {
     if word == b"model".as_slice() {
-        Some(Folder::Model)
+        Some(Folder::Model(1))
     } else if word == b"parts".as_slice() {
         Some(Folder::Parts)
     } else if word == b"p".as_slice() {

@@ -3,7 +3,7 @@ use Rattle.std.proofs.Common.{◌≡◌, ◌-◌, ℕ, zero, suc, Bool, true, fa
 use Rattle.std.specs.Prelude.{not}
 use Rattle.std.specs.List.{insert, list_all, remove}
 use Rattle.std.specs.Map.{set_value}
-use Rattle.std.specs.Option.{option_or}
+use Rattle.std.specs.Option.{is_some, option_or}
 use Rattle.std.proofs.lemmas.Bool.{and_from, and_parts, cases_Bool}
 use Rattle.ld_names.specs.declared.file.FileId.{FileId}
 use Rattle.ld_names.specs.Standing.{Known, Text, same_file}
@@ -11,8 +11,8 @@ use Rattle.ld_texts.specs.Editing.{edited, is_block_text, misfit, misses, overwe
 use Rattle.ld_texts.specs.EditLaws.{KeepsBlockLines, are_of_block_lines, is_of_block_lines}
 use Rattle.ld_texts.specs.Known.{id_of, lines_at}
 use Rattle.ld_texts.specs.declared.edit.Edit.{Edit}
-use Rattle.ld_texts.specs.declared.edit.Edit.TheVariants.{Set, Insert, Delete, New, Drop, Move}
-use Rattle.ld_texts.specs.declared.edit.EditRefusal.TheVariants.{BadLine}
+use Rattle.ld_texts.specs.declared.edit.Edit.TheVariants.{Set, Insert, Delete, New, Restore, Drop, Move}
+use Rattle.ld_texts.specs.declared.edit.EditRefusal.TheVariants.{BadLine, FileThere}
 use Rattle.ld_texts.proofs.Refused.{option_or_none, refused_if-none}
 
 -- ---- lists of which each item passes
@@ -85,6 +85,9 @@ keeps known (Delete file line) fits all =
     written known file (option_map (λ lines. remove lines (line - 1)) (text_of known file)) all
     (changed (text_of known file) (λ lines. remove lines (line - 1)) (λ lines good. all-remove is_block_text lines (line - 1) good) (by-number known (id_of known file) all))
 keeps known (New file) fits all = written known file (Some []) all refl
+keeps known (Restore file lines) fits all =
+    written known file (Some lines) all
+    (is-not (list_all is_block_text lines) (refused_if-none (not (list_all is_block_text lines)) BadLine (option_or_none (refused_if (not (list_all is_block_text lines)) BadLine) (refused_if (is_some (text_of known file)) FileThere) fits).0))
 keeps known (Drop file) fits all = written known file None all refl
 keeps known (Move from to) fits all =
     written (set_value (same_file from) known None) to (text_of known from) (written known from None all refl) (by-number known (id_of known from) all)

@@ -11,7 +11,7 @@ use Rattle.ld_texts.specs.Known.{id_of, lines_at, weight_of, weight_of_lines, we
 use Rattle.ld_texts.specs.Editing.{edited, misses, refusal_of, refused_if, text_of}
 use Rattle.ld_texts.specs.Inside.Kept.{IsWithin}
 use Rattle.ld_texts.specs.Inside.Placed.{with_text_at}
-use Rattle.ld_texts.specs.declared.edit.Edit.TheVariants.{Set, Insert, Move}
+use Rattle.ld_texts.specs.declared.edit.Edit.TheVariants.{Set, Insert, Restore, Move}
 use Rattle.ld_texts.specs.declared.edit.EditRefusal.TheVariants.{FileThere}
 use Rattle.ld_texts.proofs.Placed.{id_of-lt-length, id_of-with_text_at, lines_at-le-weight_of, lines_at-with_text_at, text_of-is, with_text_at_twice, written_at}
 use Rattle.ld_texts.proofs.Refused.{fits, inside, option_or_none, refused_if-none}
@@ -69,6 +69,13 @@ absent_at known file id free is = sym (text_of-is known file id is) ∙ none (te
     none : (text : Text) → is_some text ≡ false → text ≡ None
     none None lacks = refl
     none (Some lines) lacks = absurd (cc)
+
+-- lines that are brought back weigh no more than all may
+pub restored_light : (max_weight : ℕ) (known : Known) (file : FileId) (lines : List (List ℕ)) (id : ℕ) → id_of known file ≡ Some id → refusal_of max_weight known (Restore file lines) ≡ None → weight_of_lines lines ≤ max_weight
+restored_light max_weight known file lines id is free =
+    let after = with_text_at known id (Some lines) in
+    let whole : weight_of after ≤ max_weight = rw (← written_at known file id (Some lines) is) (fits max_weight known (Restore file lines) free) in
+    omega (arith, whole, ap weight_of_text (lines_at-with_text_at known id (Some lines) (id_of-lt-length known file id is)), lines_at-le-weight_of after id)
 
 -- the lines of a file are taken and given to another
 pub moved : (known taken : Known) (source target : FileId) (from to : ℕ) (text : Text) → id_of known source ≡ Some from → id_of known target ≡ Some to → taken ≡ with_text_at known from None → text ≡ lines_at known from → edited known (Move source target) ≡ with_text_at taken to text

@@ -1,7 +1,7 @@
 -- What an edit leaves and what it changes: proofs of the laws.
 use Rattle.std.proofs.Common.{◌≡◌, ◌≤◌, ◌-◌, ◌||◌, ℕ, Bool, true, false, cond, List, [], ◌∷◌, length, map, Option, Some, None, sym, ap, refl, ◌∙◌, subst, option_map, option_and_then, unwrap_or, arith, IsSome, inl, inr, position, slice_get, slice_set}
 use Rattle.std.specs.Prelude.{not, ⊤}
-use Rattle.std.specs.List.{IsDistinct, insert, list_any, remove}
+use Rattle.std.specs.List.{IsDistinct, insert, list_all, list_any, remove}
 use Rattle.std.specs.Map.{lookup, set_value}
 use Rattle.std.specs.Option.{is_none, is_some, option_or}
 use Rattle.std.proofs.lemmas.Bool.{cases_Bool}
@@ -12,15 +12,15 @@ use Rattle.ld_names.specs.Finding.{IsFileEquality}
 use Rattle.ld_names.specs.Standing.{Known, Map, Text, known_map, same_file, standing}
 use Rattle.ld_texts.specs.Editing.{AreKnown, edit_change, edited, edited_map, files_in, is_block_text, map_with_texts, misfit, move_change, misses, names, refusal_of, refused_if, text_in, text_of, turned, with_texts, written_by}
 use Rattle.ld_texts.specs.EditLaws.{EditLaws, EditsMaps, LeavesOthers, Weighs, grows}
-use Rattle.ld_texts.specs.Known.{file_at, files_of, id_of, is_part_at, lines_at, weight_of}
+use Rattle.ld_texts.specs.Known.{file_at, files_of, id_of, is_part_at, lines_at, moved_at, weight_of}
 use Rattle.ld_texts.specs.Learning.{Apply, Learn, Ready, change_of, edit_in, known_after}
 use Rattle.ld_texts.specs.declared.change.Change.{Change}
 use Rattle.ld_texts.specs.declared.change.Turned.{Turned}
 use Rattle.ld_texts.specs.declared.edit.Edit.{Edit}
-use Rattle.ld_texts.specs.declared.edit.Edit.TheVariants.{Set, Insert, Delete, New, Drop, Move}
+use Rattle.ld_texts.specs.declared.edit.Edit.TheVariants.{Set, Insert, Delete, New, Restore, Drop, Move}
 use Rattle.ld_texts.specs.declared.edit.EditRefusal.TheVariants.{BadLine, FileThere, NoFile}
 use Rattle.ld_texts.proofs.Places.{file_at-is, numbers_agree, the_some}
-use Rattle.ld_texts.proofs.Refused.{delete-refusal, drop-refusal, insert-weight, move-refusal, new-refusal, set-weight}
+use Rattle.ld_texts.proofs.Refused.{delete-refusal, drop-refusal, insert-weight, move-refusal, new-refusal, restored-weight, set-weight}
 
 -- ---- the files stay
 
@@ -40,6 +40,7 @@ change-stays known (Set file line text) = turned-stays known _ file _ (id_of-edi
 change-stays known (Insert file line text) = turned-stays known _ file _ (id_of-edited known (Insert file line text) file)
 change-stays known (Delete file line) = turned-stays known _ file _ (id_of-edited known (Delete file line) file)
 change-stays known (New file) = turned-stays known _ file _ (id_of-edited known (New file) file)
+change-stays known (Restore file lines) = turned-stays known _ file _ (id_of-edited known (Restore file lines) file)
 change-stays known (Drop file) = turned-stays known _ file _ (id_of-edited known (Drop file) file)
 change-stays known (Move from to) =
     ap (λ id. move_change id (id_of (edited known (Move from to)) to)) (id_of-edited known (Move from to) from) ∙ ap (move_change (id_of known from)) (id_of-edited known (Move from to) to)
@@ -69,6 +70,7 @@ light-is known max_weight (Set file line text) within grown = absurd (cc)
 light-is known max_weight (Insert file line text) within grown = absurd (cc)
 light-is known max_weight (Delete file line) within grown = delete-refusal max_weight known within file line
 light-is known max_weight (New file) within grown = new-refusal max_weight known within file
+light-is known max_weight (Restore file lines) within grown = absurd (cc)
 light-is known max_weight (Drop file) within grown = drop-refusal max_weight known within file
 light-is known max_weight (Move from to) within grown = move-refusal max_weight known within from to
 
@@ -76,6 +78,7 @@ weighs : (known : Known) → Weighs known
 weighs known = record {
   set = λ file line text lines is within. set-weight known file lines line text (sym is) within;
   inserted = λ file line text lines is. omega (arith, insert-weight known file lines line text (sym is));
+  restored = λ file lines is absent. restored-weight known file lines is absent;
   light = light-is known;
 }
 
@@ -108,6 +111,7 @@ module _ (equality : IsFileEquality) where
   written-files (Insert file line text) texts = refl
   written-files (Delete file line) texts = refl
   written-files (New file) texts = refl
+  written-files (Restore file lines) texts = refl
   written-files (Drop file) texts = refl
   written-files (Move from to) texts = refl
 
@@ -135,6 +139,15 @@ module _ (equality : IsFileEquality) where
       let there = (numbers_agree equality).file known other id is in
       part-by known (edited known edit) id other (lines_at known id) there (file-is known edit id ∙ there) refl (lines-is known edit other id apart is)
 
+  moved-by : (known after : Known) (id : ℕ) (file : FileId) (text : Text) → file_at known id ≡ Some file → file_at after id ≡ Some file → lines_at known id ≡ text → lines_at after id ≡ text → moved_at after id ≡ moved_at known id
+  moved-by known after id file None there stays is now = let numbers = numbers_agree equality in numbers.not_moved after id now ∙ sym (numbers.not_moved known id is)
+  moved-by known after id file (Some lines) there stays is now = let numbers = numbers_agree equality in numbers.moved after id file lines stays now ∙ sym (numbers.moved known id file lines there is)
+
+  moved-is : (known : Known) (edit : Edit) (other : FileId) (id : ℕ) → names edit other ≡ false → id_of known other ≡ Some id → moved_at (edited known edit) id ≡ moved_at known id
+  moved-is known edit other id apart is =
+      let there = (numbers_agree equality).file known other id is in
+      moved-by known (edited known edit) id other (lines_at known id) there (file-is known edit id ∙ there) refl (lines-is known edit other id apart is)
+
   keeps : (known : Known) (edit : Edit) → LeavesOthers known edit
   keeps known edit = record {
     files = files-stay known (written_by edit (text_of known));
@@ -146,6 +159,7 @@ module _ (equality : IsFileEquality) where
     others = others-is known edit;
     lines = lines-is known edit;
     part = part-is known edit;
+    moved = moved-is known edit;
   }
 
   -- ---- the map of what is known
@@ -192,6 +206,7 @@ module _ (equality : IsFileEquality) where
   written-same (Insert file line text) one two agree = ap (λ (t : Text). (file, option_map (λ lines. insert lines (line - 1) text) t) ∷ []) agree.0
   written-same (Delete file line) one two agree = ap (λ (t : Text). (file, option_map (λ lines. remove lines (line - 1)) t) ∷ []) agree.0
   written-same (New file) one two agree = refl
+  written-same (Restore file lines) one two agree = refl
   written-same (Drop file) one two agree = refl
   written-same (Move from to) one two agree = ap (λ (t : Text). (from, None) ∷ (to, t) ∷ []) agree.0
 
@@ -200,6 +215,7 @@ module _ (equality : IsFileEquality) where
   misfit-same (Insert file line text) one two agree = ap (λ (t : Text). option_or (refused_if (not (is_block_text text)) BadLine) (misses 1 line t)) agree.0
   misfit-same (Delete file line) one two agree = ap (misses 0 line) agree.0
   misfit-same (New file) one two agree = ap (λ (t : Text). refused_if (is_some t) FileThere) agree.0
+  misfit-same (Restore file lines) one two agree = ap (λ (t : Text). option_or (refused_if (not (list_all is_block_text lines)) BadLine) (refused_if (is_some t) FileThere)) agree.0
   misfit-same (Drop file) one two agree = ap (λ (t : Text). refused_if (is_none t) NoFile) agree.0
   misfit-same (Move from to) one two agree =
       ap (λ (t : Text). option_or (refused_if (is_none t) NoFile) (refused_if (is_some (one to)) FileThere)) agree.0

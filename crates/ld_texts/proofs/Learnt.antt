@@ -10,7 +10,7 @@ use Rattle.ld_names.specs.declared.file.FileId.{FileId}
 use Rattle.ld_names.specs.Finding.{IsFileEquality}
 use Rattle.ld_names.specs.Standing.{Known, Text, same_file}
 use Rattle.ld_texts.specs.Editing.{AreKnown, files_in, lines_needed, refusal_of, text_of}
-use Rattle.ld_texts.specs.Known.{AreDistinct, file_at, files_of, id_of, is_part_at, is_part_file, lines_at, weight_of_text}
+use Rattle.ld_texts.specs.Known.{AreDistinct, file_at, files_of, id_of, is_part_at, is_part_file, lines_at, moved_at, moved_line_in, weight_of_text}
 use Rattle.ld_texts.specs.Laws.{Learns, ReadyStays}
 use Rattle.ld_texts.specs.Learning.{Apply, IsLearnt, Learn, change_of}
 use Rattle.ld_texts.specs.declared.change.Turned.TheVariants.{Learnt}
@@ -74,6 +74,10 @@ module _ (equality : IsFileEquality) (known : Known) (file : FileId) (text : Tex
   unfolding lines_at
   new_lines-is = ap (option_and_then (λ entry. entry.1)) (get-new known (file, text))
 
+  old_moved-is : (id : ℕ) → id < length known → moved_at (known ++ (file, text) ∷ []) id ≡ moved_at known id
+  unfolding moved_at
+  old_moved-is id within = ap (λ (entry : Option (FileId × Text)). option_and_then moved_line_in entry) (get-old known (file, text) id within)
+
   old_part-is : (id : ℕ) → id < length known → is_part_at (known ++ (file, text) ∷ []) id ≡ is_part_at known id
   unfolding is_part_at
   old_part-is id within = ap (λ (entry : Option (FileId × Text)). option_map_or is_part_file entry false) (get-old known (file, text) id within)
@@ -96,6 +100,7 @@ module _ (equality : IsFileEquality) (known : Known) (file : FileId) (text : Tex
     old_lines = old_lines-is;
     new_lines = new_lines-is;
     old_part = old_part-is;
+    old_moved = old_moved-is;
   }
 
 pub ready_stays : ReadyStays

@@ -8,11 +8,12 @@ use Rattle.std.proofs.lemmas.List.Elements.{All-from_recursion, All-get_or}
 use Rattle.std.proofs.lemmas.List.Quantifiers.{position-Some}
 use Rattle.std.proofs.lemmas.Map.Keys.{IsDistinct-head, IsDistinct-tail}
 use Rattle.std.proofs.lemmas.Option.{get_or_from_slice_get, slice_get-get_or, slice_get-map, slice_get_within}
+use Rattle.ld_line.specs.Moved.{moved_line}
 use Rattle.ld_line.specs.Part.{is_part_text}
 use Rattle.ld_names.specs.declared.file.FileId.{FileId}
 use Rattle.ld_names.specs.Finding.{IsFileEquality}
 use Rattle.ld_names.specs.Standing.{Known, Text, known_map, same_file}
-use Rattle.ld_texts.specs.Known.{AreDistinct, file_at, files_of, id_of, is_part_at, is_part_file, lines_at, numbered}
+use Rattle.ld_texts.specs.Known.{AreDistinct, file_at, files_of, id_of, is_part_at, is_part_file, lines_at, moved_at, moved_line_in, numbered}
 use Rattle.ld_texts.specs.Laws.{LinesAgree, NumbersAgree}
 
 pub position-cons : {X : Type 0} (test : X → Bool) (x : X) (xs : List X) → position test (x ∷ xs) ≡ cond (test x) (Some 0) (option_map suc (position test xs))
@@ -91,6 +92,33 @@ no_part-is : (known : Known) (id : ℕ) → lines_at known id ≡ None → is_pa
 unfolding lines_at is_part_at
 no_part-is known id is = no_part-step (slice_get known id) is
 
+moved-step : (entry : Option (FileId × Text)) (file : FileId) (lines : List (List ℕ)) → option_map (λ entry. entry.0) entry ≡ Some file → option_and_then (λ entry. entry.1) entry ≡ Some lines → option_and_then moved_line_in entry ≡ moved_line file.folder lines
+moved-step None file lines there is = cc
+moved-step (Some (its, None)) file lines there is = cc
+moved-step (Some (its, Some these)) file lines there is =
+    ap (λ (f : FileId). moved_line f.folder these) (the_some its file there) ∙ ap (moved_line file.folder) (the_some these lines is)
+
+pub moved-is : (known : Known) (id : ℕ) (file : FileId) (lines : List (List ℕ)) → file_at known id ≡ Some file → lines_at known id ≡ Some lines → moved_at known id ≡ moved_line file.folder lines
+unfolding file_at lines_at moved_at
+moved-is known id file lines there is = moved-step (slice_get known id) file lines there is
+
+not_moved-step : (entry : Option (FileId × Text)) → option_and_then (λ entry. entry.1) entry ≡ None → option_and_then moved_line_in entry ≡ None
+not_moved-step None is = refl
+not_moved-step (Some (its, None)) is = refl
+not_moved-step (Some (its, Some these)) is = cc
+
+pub not_moved-is : (known : Known) (id : ℕ) → lines_at known id ≡ None → moved_at known id ≡ None
+unfolding lines_at moved_at
+not_moved-is known id is = not_moved-step (slice_get known id) is
+
+no_file-step : (entry : Option (FileId × Text)) → option_map (λ entry. entry.0) entry ≡ None → option_and_then moved_line_in entry ≡ None
+no_file-step None is = refl
+no_file-step (Some entry) is = cc
+
+pub no_file-is : (known : Known) (id : ℕ) → file_at known id ≡ None → moved_at known id ≡ None
+unfolding file_at moved_at
+no_file-is known id is = no_file-step (slice_get known id) is
+
 module _ (equality : IsFileEquality) where
   file-is : (known : Known) (file : FileId) (id : ℕ) → id_of known file ≡ Some id → file_at known id ≡ Some file
   unfolding id_of
@@ -115,7 +143,7 @@ module _ (equality : IsFileEquality) where
   number-is known file id distinct there = distinct-place (files_of known) file id distinct (sym (file_at-is known id) ∙ there)
 
   pub numbers_agree : NumbersAgree
-  numbers_agree = record { map = map-is; file = file-is; number = number-is; there = file_at-there; present = present-is; part = part-is; no_part = no_part-is }
+  numbers_agree = record { map = map-is; file = file-is; number = number-is; there = file_at-there; present = present-is; part = part-is; no_part = no_part-is; moved = moved-is; not_moved = not_moved-is }
 
 numbered-next : (lines : List (List ℕ)) (k : ℕ) → numbered lines (k + 1) ≡ slice_get lines k
 numbered-next lines k = ap (numbered lines) (add-one k)

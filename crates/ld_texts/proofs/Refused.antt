@@ -1,6 +1,6 @@
 -- Why an edit is refused, before its weight is looked at and after.
-use Rattle.std.proofs.Common.{◌≡◌, ◌≤◌, ◌<◌, ◌+◌, ◌-◌, ◌||◌, ◌==◌, ℕ, suc, Bool, true, false, List, [], length, take, drop, Option, Some, None, sym, ap, refl, ◌∙◌, option_map, option_and_then, get_or, arith, tests, nat_lt, slice_set, inl, inr, take_all}
-use Rattle.std.specs.List.{insert, remove}
+use Rattle.std.proofs.Common.{◌≡◌, ◌≤◌, ◌<◌, ◌+◌, ◌-◌, ◌||◌, ◌==◌, ℕ, suc, Bool, true, false, List, [], length, take, drop, Option, Some, None, sym, ap, refl, ◌∙◌, option_map, option_and_then, IsSome, get_or, arith, tests, nat_lt, slice_set, inl, inr, take_all}
+use Rattle.std.specs.List.{insert, list_all, remove}
 use Rattle.std.specs.Map.{set_value}
 use Rattle.std.specs.Option.{is_none, is_some, option_map_or, option_or}
 use Rattle.std.proofs.lemmas.Bool.{cases_lt}
@@ -9,10 +9,10 @@ use Rattle.std.proofs.lemmas.List.Sums.{get_or-le-sum_by, sum_by-append, sum_by-
 use Rattle.ld_names.specs.declared.file.FileId.{FileId}
 use Rattle.ld_names.specs.Standing.{Known, Text, same_file}
 use Rattle.ld_texts.specs.Known.{id_of, lines_at, weight_of, weight_of_lines, weight_of_text}
-use Rattle.ld_texts.specs.Editing.{edited, misfit, misses, overweight, refusal_of, refused_if, text_of}
+use Rattle.ld_texts.specs.Editing.{edited, is_block_text, misfit, misses, overweight, refusal_of, refused_if, text_of}
 use Rattle.ld_texts.specs.Inside.Placed.{with_text_at}
 use Rattle.ld_texts.specs.declared.edit.Edit.{Edit}
-use Rattle.ld_texts.specs.declared.edit.Edit.TheVariants.{Set, Insert, Delete, New, Drop, Move}
+use Rattle.ld_texts.specs.declared.edit.Edit.TheVariants.{Set, Insert, Delete, New, Restore, Drop, Move}
 use Rattle.ld_texts.specs.declared.edit.EditRefusal.{EditRefusal}
 use Rattle.ld_texts.specs.declared.edit.EditRefusal.TheVariants.{BadLine, NoFile, FileThere, NoLine, Full}
 use Rattle.ld_texts.proofs.Placed.{id_of-lt-length, lines_at-le-weight_of, text_of-is, weight_of-with_text_at, written-is, written_at}
@@ -139,6 +139,35 @@ set-weight known file lines line put is within =
 pub insert-weight : (known : Known) (file : FileId) (lines : List (List ℕ)) (line : ℕ) (put : List ℕ) → Some lines ≡ text_of known file → weight_of (edited known (Insert file line put)) + 0 ≡ weight_of known + (length put + 32)
 insert-weight known file lines line put is =
     omega (arith, changed-weight known file lines (λ ls. insert ls (line - 1) put) is, sum_by-insert (λ l. length l + 32) lines (line - 1) put)
+
+-- an absent file gets lines
+pub restored-weight : (known : Known) (file : FileId) (lines : List (List ℕ)) → IsSome (id_of known file) → text_of known file ≡ None → weight_of (edited known (Restore file lines)) ≡ weight_of known + weight_of_lines lines
+restored-weight known file lines is absent = place (id_of known file) refl is
+  where
+    place : (found : Option ℕ) → id_of known file ≡ found → IsSome found → weight_of (edited known (Restore file lines)) ≡ weight_of known + weight_of_lines lines
+    place None at some = absurd (cc)
+    place (Some id) at some = omega (arith, writing-weight known file id (Some lines) at, ap weight_of_text absent)
+
+-- a text is there where something stands for it
+pub some_text : {X : Type 0} (lines : X → List (List ℕ)) (found : Option X) (text : Text) → option_map lines found ≡ text → is_some text ≡ is_some found
+some_text {X = X} lines found text is = ap is_some (sym is) ∙ same found
+  where
+    same : (found : Option X) → is_some (option_map lines found) ≡ is_some found
+    same None = refl
+    same (Some x) = refl
+
+module _ (max_weight : ℕ) (known : Known) (file : FileId) (lines : List (List ℕ)) (good : list_all is_block_text lines ≡ true) where
+  pub restore-there : is_some (text_of known file) ≡ true → Some FileThere ≡ refusal_of max_weight known (Restore file lines)
+  restore-there there = rw (good, there) refl
+
+  pub restore-weighs : IsSome (id_of known file) → is_some (text_of known file) ≡ false → refused_if (nat_lt max_weight (weight_of known + weight_of_lines lines)) (Full (weight_of known)) ≡ refusal_of max_weight known (Restore file lines)
+  restore-weighs is absent =
+      let weight = restored-weight known file lines is (none (text_of known file) absent) in
+      rw (good, absent, weight) refl
+    where
+      none : (text : Text) → is_some text ≡ false → text ≡ None
+      none None lacks = refl
+      none (Some these) lacks = absurd (cc)
 
 -- where nothing else refuses it, an edit of a line is refused by its weight
 pub weighed : (bad : Bool) (further line : ℕ) (text : Text) (lines : List (List ℕ)) (rest result : Option EditRefusal) → bad ≡ false → Some lines ≡ text → misses further line (Some lines) ≡ None → result ≡ rest → result ≡ option_or (option_or (refused_if bad BadLine) (misses further line text)) rest

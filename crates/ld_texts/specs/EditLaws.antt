@@ -1,13 +1,13 @@
 -- What an edit leaves and what it changes: over the known files, over what is known of each file, and over the texts as
 -- they stand.
-use Rattle.std.specs.Prelude.{◌≡◌, ◌≤◌, ◌<◌, ◌+◌, ◌-◌, ℕ, Bool, true, false, [], List, length, Some, None, get_or}
+use Rattle.std.specs.Prelude.{◌≡◌, ◌≤◌, ◌<◌, ◌+◌, ◌-◌, ℕ, Bool, true, false, [], List, length, Some, None, IsSome, get_or}
 use Rattle.std.specs.List.{list_all}
 use Rattle.ld_names.specs.declared.file.FileId.{FileId}
 use Rattle.ld_names.specs.Standing.{Known, Text, known_map, standing}
 use Rattle.ld_texts.specs.Editing.{AreKnown, edit_change, edited, edited_map, files_in, is_block_text, misfit, names, refusal_of, text_in, text_of}
-use Rattle.ld_texts.specs.Known.{AreDistinct, file_at, files_of, id_of, is_part_at, lines_at, weight_of}
+use Rattle.ld_texts.specs.Known.{AreDistinct, file_at, files_of, id_of, is_part_at, lines_at, moved_at, weight_of, weight_of_lines}
 use Rattle.ld_texts.specs.declared.edit.Edit.{Edit}
-use Rattle.ld_texts.specs.declared.edit.Edit.TheVariants.{Set, Insert}
+use Rattle.ld_texts.specs.declared.edit.Edit.TheVariants.{Set, Insert, Restore}
 
 -- every file keeps its number, and the files that the edit does not name keep their texts
 pub record LeavesOthers (known : Known) (edit : Edit) : Type 0 where
@@ -20,6 +20,7 @@ pub record LeavesOthers (known : Known) (edit : Edit) : Type 0 where
   pub others : (other : FileId) → names edit other ≡ false → known_map (edited known edit) other ≡ known_map known other
   pub lines : (other : FileId) (id : ℕ) → names edit other ≡ false → id_of known other ≡ Some id → lines_at (edited known edit) id ≡ lines_at known id
   pub part : (other : FileId) (id : ℕ) → names edit other ≡ false → id_of known other ≡ Some id → is_part_at (edited known edit) id ≡ is_part_at known id
+  pub moved : (other : FileId) (id : ℕ) → names edit other ≡ false → id_of known other ≡ Some id → moved_at (edited known edit) id ≡ moved_at known id
 
 -- an edit of known files is the edit of the map of what is known, and of the texts as they stand
 pub record EditsMaps (known : Known) (edit : Edit) : Type 0 where
@@ -31,12 +32,14 @@ pub record EditsMaps (known : Known) (edit : Edit) : Type 0 where
 abbrev pub grows : Edit → Bool
 grows (Set file line text) = true
 grows (Insert file line text) = true
+grows (Restore file lines) = true
 grows edit = false
 
--- the weight after an edit of a line; only a line that is set or inserted can pass the limit
+-- the weight after an edit that brings lines, which alone can pass the limit
 pub record Weighs (known : Known) : Type 0 where
   pub set : (file : FileId) (line : ℕ) (text : List ℕ) (lines : List (List ℕ)) → text_of known file ≡ Some lines → line - 1 < length lines → weight_of (edited known (Set file line text)) + (length (get_or lines (line - 1) []) + 32) ≡ weight_of known + (length text + 32)
   pub inserted : (file : FileId) (line : ℕ) (text : List ℕ) (lines : List (List ℕ)) → text_of known file ≡ Some lines → weight_of (edited known (Insert file line text)) ≡ weight_of known + (length text + 32)
+  pub restored : (file : FileId) (lines : List (List ℕ)) → IsSome (id_of known file) → text_of known file ≡ None → weight_of (edited known (Restore file lines)) ≡ weight_of known + weight_of_lines lines
   pub light : (max_weight : ℕ) (edit : Edit) → weight_of known ≤ max_weight → grows edit ≡ false → refusal_of max_weight known edit ≡ misfit (text_of known) edit
 
 abbrev pub EditLaws : Type 0

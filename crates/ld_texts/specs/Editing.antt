@@ -1,7 +1,7 @@
 -- Edits: which files they name, which texts they write, why they are refused, what they turn. All of it is this
 -- project's own; what begins and ends a block is of the MPD Language Extension.
 use Rattle.std.specs.Prelude.{◌+◌, ◌-◌, ◌==◌, ◌&&◌, ◌||◌, ℕ, Bool, not, List, [], ◌∷◌, length, slice_set, Option, Some, None, option_and_then, option_map, IsSome, unwrap_or, if◌then◌else◌, nat_lt, ⊤}
-use Rattle.std.specs.List.{insert, remove, list_any}
+use Rattle.std.specs.List.{insert, remove, list_all, list_any}
 use Rattle.std.specs.Map.{set_value}
 use Rattle.std.specs.Option.{is_none, is_some, option_or}
 use Rattle.ld_line.specs.Block.{block_line_of, is_other}
@@ -13,7 +13,7 @@ use Rattle.ld_texts.specs.declared.change.Change.{Change}
 use Rattle.ld_texts.specs.declared.change.Turned.{Turned}
 use Rattle.ld_texts.specs.declared.change.Turned.TheVariants.{Altered, Appeared, Went}
 use Rattle.ld_texts.specs.declared.edit.Edit.{Edit}
-use Rattle.ld_texts.specs.declared.edit.Edit.TheVariants.{Set, Insert, Delete, New, Drop, Move}
+use Rattle.ld_texts.specs.declared.edit.Edit.TheVariants.{Set, Insert, Delete, New, Restore, Drop, Move}
 use Rattle.ld_texts.specs.declared.edit.EditRefusal.{EditRefusal}
 use Rattle.ld_texts.specs.declared.edit.EditRefusal.TheVariants.{BadLine, NoFile, FileThere, NoLine, Full}
 
@@ -25,6 +25,7 @@ files_in (Set file line text) = file ∷ []
 files_in (Insert file line text) = file ∷ []
 files_in (Delete file line) = file ∷ []
 files_in (New file) = file ∷ []
+files_in (Restore file lines) = file ∷ []
 files_in (Drop file) = file ∷ []
 files_in (Move from to) = from ∷ to ∷ []
 
@@ -53,6 +54,7 @@ written_by (Set file line text) texts = (file, option_map (λ lines. slice_set l
 written_by (Insert file line text) texts = (file, option_map (λ lines. insert lines (line - 1) text) (texts file)) ∷ []
 written_by (Delete file line) texts = (file, option_map (λ lines. remove lines (line - 1)) (texts file)) ∷ []
 written_by (New file) texts = (file, Some []) ∷ []
+written_by (Restore file lines) texts = (file, Some lines) ∷ []
 written_by (Drop file) texts = (file, None) ∷ []
 written_by (Move from to) texts = (from, None) ∷ (to, texts from) ∷ []
 
@@ -94,6 +96,7 @@ misfit texts (Set file line text) = option_or (refused_if (not (is_block_text te
 misfit texts (Insert file line text) = option_or (refused_if (not (is_block_text text)) BadLine) (misses 1 line (texts file))
 misfit texts (Delete file line) = misses 0 line (texts file)
 misfit texts (New file) = refused_if (is_some (texts file)) FileThere
+misfit texts (Restore file lines) = option_or (refused_if (not (list_all is_block_text lines)) BadLine) (refused_if (is_some (texts file)) FileThere)
 misfit texts (Drop file) = refused_if (is_none (texts file)) NoFile
 misfit texts (Move from to) = option_or (refused_if (is_none (texts from)) NoFile) (refused_if (is_some (texts to)) FileThere)
 
@@ -122,6 +125,7 @@ edit_change known (Set file line text) = turned known file Altered
 edit_change known (Insert file line text) = turned known file Altered
 edit_change known (Delete file line) = turned known file Altered
 edit_change known (New file) = turned known file Appeared
+edit_change known (Restore file lines) = turned known file Appeared
 edit_change known (Drop file) = turned known file Went
 edit_change known (Move from to) = move_change (id_of known from) (id_of known to)
 

@@ -1,10 +1,11 @@
 -- What look-ups by file, by number and by line say of each other, and what learning a file changes of them.
 use Rattle.std.specs.Prelude.{◌≡◌, ◌+◌, ◌<◌, ◌++◌, ℕ, false, [], ◌∷◌, List, length, Some, None, get_or, option_and_then, option_map, slice_get, nat_lt, if◌then◌else◌}
 use Rattle.std.specs.Option.{is_some, option_or}
+use Rattle.ld_line.specs.Moved.{moved_line}
 use Rattle.ld_line.specs.Part.{is_part_text}
 use Rattle.ld_names.specs.declared.file.FileId.{FileId}
 use Rattle.ld_names.specs.Standing.{Known, Text, known_map, same_file}
-use Rattle.ld_texts.specs.Known.{AreDistinct, file_at, files_of, id_of, is_part_at, line_at, lines_at, weight_of, weight_of_text}
+use Rattle.ld_texts.specs.Known.{AreDistinct, file_at, files_of, id_of, is_part_at, line_at, lines_at, moved_at, weight_of, weight_of_text}
 use Rattle.ld_texts.specs.Learning.{CanCommit, KeepsTexts, Learn, Ready, Texts, change_of}
 use Rattle.ld_texts.specs.declared.change.Turned.TheVariants.{Learnt}
 
@@ -17,6 +18,8 @@ pub record NumbersAgree : Type 0 where
   pub present : (known : Known) (id : ℕ) (lines : List (List ℕ)) → lines_at known id ≡ Some lines → id < length known
   pub part : (known : Known) (id : ℕ) (file : FileId) (lines : List (List ℕ)) → file_at known id ≡ Some file → lines_at known id ≡ Some lines → is_part_at known id ≡ is_part_text file.folder lines
   pub no_part : (known : Known) (id : ℕ) → lines_at known id ≡ None → is_part_at known id ≡ false
+  pub moved : (known : Known) (id : ℕ) (file : FileId) (lines : List (List ℕ)) → file_at known id ≡ Some file → lines_at known id ≡ Some lines → moved_at known id ≡ moved_line file.folder lines
+  pub not_moved : (known : Known) (id : ℕ) → lines_at known id ≡ None → moved_at known id ≡ None
 
 -- line k + 1 of a text is item k of its lines
 pub record LinesAgree : Type 0 where
@@ -39,6 +42,7 @@ pub record Learns (known : Known) (file : FileId) (text : Text) (learnt : Known)
   pub old_lines : (id : ℕ) → id < length known → lines_at learnt id ≡ lines_at known id
   pub new_lines : lines_at learnt (length known) ≡ text
   pub old_part : (id : ℕ) → id < length known → is_part_at learnt id ≡ is_part_at known id
+  pub old_moved : (id : ℕ) → id < length known → moved_at learnt id ≡ moved_at known id
 
 abbrev pub LearningNumbers : Type 0
 LearningNumbers = (known : Known) (file : FileId) (text : Text) → Learns known file text (known ++ (file, text) ∷ [])

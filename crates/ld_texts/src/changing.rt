@@ -8,9 +8,9 @@ ghost use Rattle.ld_texts.specs.declared.change.Turned.TheVariants.{Altered, App
 
 use crate::change::{Change, Turned};
 use crate::edit::Edit;
-use crate::text::{KnownText, weigh_text};
+use crate::text::{KnownText, weigh, weigh_text};
 use crate::texts::Texts;
-use ld_names::{Bytes, FileId, TextId};
+use ld_names::{Bytes, FileId, Lines, TextId};
 use std::mem;
 
 impl Texts {
@@ -30,6 +30,7 @@ impl Texts {
             Edit::Insert { file, line, text } => self.insert(file, line, text, room),
             Edit::Delete { file, line } => self.delete(file, line),
             Edit::New { file } => self.new_file(file),
+            Edit::Restore { file, lines } => self.restore(file, lines),
             Edit::Drop { file } => self.drop_file(file),
             Edit::Move { from, to } => self.move_file(from, to),
         }
@@ -97,6 +98,22 @@ impl Texts {
         let id = self.number(&file);
         let lines = KnownText::empty(self.alloc);
         self.put(id, Some(lines));
+        one_turned(id, Turned::Appeared)
+    }
+
+    fn restore(&mut self, file: FileId, lines: Lines) -> Change
+        requires apt { AreKnown self.old.known (file ∷ []) }
+        requires fits { refusal_of self.old.max_weight self.old.known (Edit.Restore file lines) ≡ None }
+        ensures known { self.new.known ≡ edited self.old.known (Edit.Restore file lines) }
+        ensures max_files { self.new.max_files ≡ self.old.max_files }
+        ensures max_weight { self.new.max_weight ≡ self.old.max_weight }
+        ensures change { turned self.old.known file Appeared ≡ Some result }
+    {
+        let _ = &self.alloc;
+        let id = self.number(&file);
+        let weight = weigh(lines.as_slice());
+        let text = KnownText::new(file.folder, lines, weight);
+        self.put(id, Some(text));
         one_turned(id, Turned::Appeared)
     }
 

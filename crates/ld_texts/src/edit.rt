@@ -1,7 +1,7 @@
 ghost use Rattle.std.specs.Prelude.{◌≡◌, IfOk};
 ghost use Rattle.ld_texts.specs.declared.edit.PrepareError.TheVariants.{Memory};
 
-use ld_names::{Bytes, FileId, List};
+use ld_names::{Bytes, FileId, Lines, List};
 use std::alloc::{AllocError, Global};
 
 /// A change of a line of a file, or of which files are there. Lines are numbered from 1, and a text
@@ -28,6 +28,11 @@ pub enum Edit {
     /// An absent file is there, without lines.
     New {
         file: FileId,
+    },
+    /// An absent file is there, with these lines.
+    Restore {
+        file: FileId,
+        lines: Lines,
     },
     /// A file is absent.
     Drop {
@@ -63,6 +68,10 @@ impl Edit {
             Edit::New { file } => Ok(Edit::New {
                 file: file.copy(alloc)?,
             }),
+            Edit::Restore { file, lines } => Ok(Edit::Restore {
+                file: file.copy(alloc)?,
+                lines: copy_lines(alloc, lines.as_slice())?,
+            }),
             Edit::Drop { file } => Ok(Edit::Drop {
                 file: file.copy(alloc)?,
             }),
@@ -74,10 +83,20 @@ impl Edit {
     }
 }
 
+fn copy_lines(alloc: Global, lines: &[Bytes]) -> Result<Lines, AllocError>
+    ensures { IfOk result (λ copied. copied ≡ lines.now) }
+{
+    let mut copied = Vec::with_capacity(alloc, lines.len())?;
+    for line in lines {
+        copied.push(List::from_slice(alloc, line.as_slice())?)?;
+    }
+    Ok(List::from_vec(copied))
+}
+
 /// Why an edit is refused: the first of these that holds.
 #[derive(Clone, Copy, Debug, PartialEq, Eq)]
 pub enum EditRefusal {
-    /// A line feed stands in the text, or it begins or ends a block (MPD Language Extension).
+    /// A line feed stands in a line, or it begins or ends a block (MPD Language Extension).
     BadLine,
     /// The file is absent.
     NoFile,

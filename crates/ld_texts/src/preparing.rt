@@ -1,5 +1,6 @@
 // Edits are prepared, or refused.
-ghost use Rattle.std.specs.Prelude.{◌≡◌, ◌≤◌, ◌<◌, ◌+◌, ◌^◌, ℕ, [], IfOk, IfSome, OnErr, OnOk, Some, length, nat_lt};
+ghost use Rattle.std.specs.Prelude.{◌≡◌, ◌≤◌, ◌<◌, ◌+◌, ◌^◌, ℕ, [], ◌∷◌, IfOk, IfSome, OnErr, OnOk, Some, length, nat_lt};
+ghost use Rattle.std.specs.List.{list_all};
 ghost use Rattle.std.specs.Option.{option_copied};
 ghost use Rattle.std.specs.Vec.{vec_capacity};
 ghost use Rattle.ld_texts.specs.Editing.{AreKnown, edit_change, edited, files_in, is_block_text, lines_needed, refusal_of, refused_if, text_of};
@@ -10,7 +11,7 @@ ghost use Rattle.ld_line.specs.Word.{is_one_line};
 use crate::change::Change;
 use crate::edit::{Edit, EditRefusal, PrepareError};
 use crate::ready::{Prepared, Ready};
-use crate::text::{KnownText, line_weight};
+use crate::text::{KnownText, line_weight, weigh};
 use crate::texts::Texts;
 use ld_line::{BlockLine, block_line};
 use ld_names::{Bytes, FileId};
@@ -21,10 +22,10 @@ impl Texts {
     ///
     /// # Errors
     ///
-    /// `Refused` by the first that holds: the text of a line holds a line feed, or begins or ends a
-    /// block; the file is absent, or `from` of `Move`; the file of `New` is present, or `to` of
-    /// `Move`; there is no such line, or none to insert before or behind; the texts would weigh more
-    /// than they may. Then `Memory`.
+    /// `Refused` by the first that holds: a line that it brings holds a line feed, or begins or ends a
+    /// block; the file is absent, or `from` of `Move`; the file of `New` or `Restore` is present, or
+    /// `to` of `Move`; there is no such line, or none to insert before or behind; the texts would
+    /// weigh more than they may. Then `Memory`.
     pub fn prepare(&mut self, edit: &Edit) -> Result<Ready, PrepareError>
         requires { AreKnown self.old.known (files_in edit.now) }
         ensures result { PreparesUnless (refusal_of self.old.max_weight self.old.known edit.now) edit.now result }
@@ -76,6 +77,7 @@ impl Texts {
     }
 
     fn refusal(&self, edit: &Edit) -> Option<EditRefusal>
+        requires { AreKnown self.now.known (files_in edit.now) }
         ensures { result ≡ refusal_of self.now.max_weight self.now.known edit.now }
     {
         match edit {
@@ -83,6 +85,7 @@ impl Texts {
             Edit::Insert { file, line, text } => self.insert_refusal(file, *line, text.as_slice()),
             Edit::Delete { file, line } => self.delete_refusal(file, *line),
             Edit::New { file } => self.new_refusal(file),
+            Edit::Restore { file, lines } => self.restore_refusal(file, lines.as_slice()),
             Edit::Drop { file } => self.drop_refusal(file),
             Edit::Move { from, to } => self.move_refusal(from, to),
         }
@@ -141,6 +144,24 @@ impl Texts {
         }
     }
 
+    fn restore_refusal(&self, file: &FileId, lines: &[Bytes]) -> Option<EditRefusal>
+        requires { AreKnown self.now.known (file.now ∷ []) }
+        ensures { result ≡ refusal_of self.now.max_weight self.now.known (Edit.Restore file.now lines.now) }
+    {
+        let _ = &self.alloc;
+        if !are_block_texts(lines) {
+            return Some(EditRefusal::BadLine);
+        }
+        if self.text_of(file).is_some() {
+            return Some(EditRefusal::FileThere);
+        }
+        let left = self.max_weight - self.weight;
+        if weigh(lines) > left {
+            return Some(EditRefusal::Full(self.weight));
+        }
+        None
+    }
+
     fn drop_refusal(&self, file: &FileId) -> Option<EditRefusal>
         ensures { result ≡ refusal_of self.now.max_weight self.now.known (Edit.Drop file.now) }
     {
@@ -189,6 +210,12 @@ fn is_block_text(line: &[u8]) -> bool
     ensures { result ≡ is_block_text line.now }
 {
     is_one_line(line) && block_line(line) == BlockLine::Other
+}
+
+fn are_block_texts(lines: &[Bytes]) -> bool
+    ensures { result ≡ list_all is_block_text lines.now }
+{
+    lines.iter().all(|line| is_block_text(line.as_slice()))
 }
 
 fn is_one_line(line: &[u8]) -> bool

@@ -2,6 +2,7 @@ ghost use Rattle.std.specs.Prelude.{◌≡◌, ◌+◌, ◌-◌, ◌^◌, ◌<�
 ghost use Rattle.std.specs.List.{insert, remove};
 ghost use Rattle.std.specs.Option.{option_copied};
 ghost use Rattle.std.specs.Vec.{vec_capacity, vec_len};
+ghost use Rattle.ld_line.specs.Moved.{moved_line};
 ghost use Rattle.ld_line.specs.Part.{header_of, is_part_by_header, is_part_text};
 ghost use Rattle.ld_line.specs.Reading.{line_of};
 ghost use Rattle.ld_texts.specs.Editing.{misses};
@@ -9,7 +10,7 @@ ghost use Rattle.ld_texts.specs.Inside.Kept.{IsHeader};
 ghost use Rattle.ld_texts.specs.Known.{numbered, weight_of_lines, weight_of_text};
 
 use crate::edit::EditRefusal;
-use ld_line::header_line;
+use ld_line::{header_line, moved_reference};
 use ld_names::{Bytes, Folder, Lines, List};
 use std::alloc::Global;
 use std::marker::Model;
@@ -107,6 +108,19 @@ impl KnownText {
             (Folder::Parts | Folder::P, _) => true,
             (Folder::Model(_), Some(part)) => part,
             (Folder::Model(_), None) => part_by_header(self.lines.as_slice()),
+        }
+    }
+
+    // The number of the one reference, where the text is a moved text in this folder.
+    #[tactic(auto, unfolding(ld_line::specs::Moved::moved_line))]
+    pub(crate) fn moved_line(&self, folder: Folder) -> Option<u32>
+        requires { length self.now < 2 ^ 32 }
+        ensures { result ≡ moved_line folder self.now }
+    {
+        if self.is_part(folder) {
+            moved_reference(self.lines())
+        } else {
+            None
         }
     }
 

@@ -1,6 +1,6 @@
-ghost use Rattle.std.specs.Prelude.{◌≡◌, ◌<◌, ◌≤◌, ◌^◌, [], IfOk, IfSome, OnOk, Some, None, length, option_map, true};
+ghost use Rattle.std.specs.Prelude.{◌≡◌, ◌<◌, ◌≤◌, ◌^◌, [], IfOk, IfSome, IsSome, OnOk, Some, None, length, option_map, true};
 ghost use Rattle.std.specs.Option.{is_some, option_copied};
-ghost use Rattle.ld_texts.specs.Known.{AreDistinct, file_at, id_of, is_part_at, line_at, lines_at, weight_of};
+ghost use Rattle.ld_texts.specs.Known.{AreDistinct, file_at, id_of, is_part_at, line_at, lines_at, moved_at, weight_of};
 ghost use Rattle.ld_texts.specs.Learning.{CanCommit, KeepsTexts, Learn, LearnsAt, GivesUnless, change_of, has_place, known_after, limit_passed, weight_passed};
 ghost use Rattle.ld_names.specs.declared.file.FileId.{FileId};
 
@@ -8,7 +8,7 @@ use crate::change::{Change, LearnError, Over, Turned};
 use crate::ids::Ids;
 use crate::ready::{Prepared, Ready};
 use crate::text::{KnownText, weigh, weigh_text};
-use ld_names::{FileId, Folder, Lines, Name, TextId, file_laws};
+use ld_names::{Bytes, FileId, Folder, Lines, Name, TextId, file_laws};
 use std::alloc::{AllocError, Global};
 use std::collections::BTreeMap;
 use std::marker::Model;
@@ -107,6 +107,13 @@ impl Texts {
         self.text(id)?.line(line)
     }
 
+    /// The lines of a present file.
+    pub fn lines(&self, id: TextId) -> Option<&[Bytes]>
+        ensures { option_copied result ≡ lines_at self.now.known id.0 }
+    {
+        Some(self.text(id)?.lines())
+    }
+
     /// Whether the file is present and its text is a part text: it lies in the library, or its first
     /// `!LDRAW_ORG` line names the type of a part (Official Library Header Specification).
     #[tactic(auto, unfolding(crate::specs::Known::is_part_at))]
@@ -117,6 +124,17 @@ impl Texts {
             Some((file, Some(text))) => text.is_part(file.folder),
             _ => false,
         }
+    }
+
+    /// The number of the one reference of a present file whose text is a moved text, which only says
+    /// where a part moved to: a part text whose first line begins with `0 ~Moved to`, with no other
+    /// reference and no line that draws. `None` for every other file.
+    pub fn moved(&self, id: TextId) -> Option<u32>
+        ensures { result ≡ moved_at self.now.known id.0 }
+    {
+        let file = self.file(id)?;
+        let text = self.text(id)?;
+        text.moved_line(file.folder)
     }
 
     /// How many files are known.
@@ -136,12 +154,14 @@ impl Texts {
         self.weight
     }
 
-    /// Takes the memory that is needed to learn a file with its lines, or as absent.
+    /// Takes the memory that is needed to learn a file with its lines, or as absent. Where a limit would
+    /// be passed, all stays as it was.
     pub fn prepare_file(&mut self, file: &FileId, lines: Option<Lines>) -> Result<Ready, LearnError>
         requires { id_of self.old.known file.now ≡ None }
         ensures result { GivesUnless (limit_passed self.old.max_files self.old.max_weight self.old.known lines) (Learn file.now lines) result }
         ensures ready { IfOk result (CanCommit self.new) }
         ensures same { KeepsTexts self.old self.new }
+        ensures refused { IsSome (limit_passed self.old.max_files self.old.max_weight self.old.known lines) → self.new ≡ self.old }
     {
         if self.known() == self.max_files {
             return Err(LearnError::Full(Over::Files(self.max_files)));

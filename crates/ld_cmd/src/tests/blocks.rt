@@ -1,5 +1,5 @@
 //! Worked files of several blocks.
-ghost use Rattle.std.specs.Prelude.{◌≡◌, [], ◌∷◌, ◌++◌, Err, codes, false, true};
+ghost use Rattle.std.specs.Prelude.{◌≡◌, [], ◌∷◌, ◌++◌, Err, Ok, codes, false, true};
 ghost use Rattle.ld_mpd.specs.Blocks.{block, blocks_of, text_of};
 ghost use Rattle.ld_mpd.specs.Joining.{join_of};
 ghost use Rattle.ld_mpd.specs.declared.joining.JoinError.TheVariants.{BadBlock, NoText};
@@ -39,10 +39,15 @@ const TEXTS: &str = "0 !DATA x~b~0 FILE x~c~~d~0 FILE y~e => |c||d\n\
 a~0 !DATA x~b => |a\n\
 0 FILE x~0 NOFILE~a => ";
 
-// Blocks of one line each, and the file that they are joined to, or why they cannot be joined.
-const JOINED: &str = "text my car.ldr|2 24;data a|1 => 0 FILE my car.ldr^2 24^0 !DATA a^1^\n\
-text my car.ldr|1;text a.ldr|2;text a.ldr|3 => BadBlock(3)\n\
+// Blocks of no line or one, and the file that they are joined to, or why they cannot be joined. The
+// first four are the worked example mpd.
+const JOINED: &str = "text my car.ldr|2 24 0 0 0 1 0 0;text a.ldr => \
+0 FILE my car.ldr^2 24 0 0 0 1 0 0^0 FILE a.ldr^\n\
+\x20=> NoText\n\
+text my car.ldr|2 24 0 0 0 1 0 0;text a.ldr;text a.ldr => BadBlock(3)\n\
 text x|0 NOFILE => BadBlock(1)\n\
+text my car.ldr|2 24;data a|1 => 0 FILE my car.ldr^2 24^0 !DATA a^1^\n\
+text my car.ldr|1;text a.ldr|2;text a.ldr|3 => BadBlock(3)\n\
 text x|1;data x|0 FILE y;data x|2 => BadBlock(2)\n\
 text x|1;data y|1;text z|a~b => BadBlock(3)\n\
 data x|0 NOFILE;data x|1 => NoText";
@@ -144,9 +149,9 @@ fn one_line(alloc: Global, line: &str) -> Option<Lines> {
     Some(lines)
 }
 
-fn block_of(alloc: Global, kind: &str, name: &str, line: &str) -> Option<Block> {
+fn block_of(alloc: Global, head: &str, lines: Lines) -> Option<Block> {
+    let (kind, name) = head.split_once(' ')?;
     let name = normal(alloc, name.as_bytes()).ok()?;
-    let lines = one_line(alloc, line)?;
     Some(Block {
         name,
         lines,
@@ -154,11 +159,12 @@ fn block_of(alloc: Global, kind: &str, name: &str, line: &str) -> Option<Block> 
     })
 }
 
-// A block of one line, as `text x|0 NOFILE`.
+// A block of one line, as `text x|0 NOFILE`, or of none, as `text x`.
 fn one_block(alloc: Global, part: &str) -> Option<Block> {
-    let (head, line) = part.split_once('|')?;
-    let (kind, name) = head.split_once(' ')?;
-    block_of(alloc, kind, name, line)
+    match part.split_once('|') {
+        Some((head, line)) => block_of(alloc, head, one_line(alloc, line)?),
+        None => block_of(alloc, part, Lines::new(alloc)),
+    }
 }
 
 fn push_block(alloc: Global, part: &str, into: &mut Vec<Block>) -> Option<()> {
@@ -168,7 +174,7 @@ fn push_block(alloc: Global, part: &str, into: &mut Vec<Block>) -> Option<()> {
 
 fn few_blocks(alloc: Global, parts: &str) -> Option<Vec<Block>> {
     let mut blocks = Vec::new(alloc);
-    for part in parts.split(';') {
+    for part in parts.split_terminator(';') {
         push_block(alloc, part, &mut blocks)?;
     }
     Some(blocks)
@@ -238,6 +244,8 @@ fn blocks_by_definition()
     ensures outside { blocks_of (codes "own") (codes "a" ++ 10 ∷ codes "0 FILE X" ++ 10 ∷ codes "b" ++ 10 ∷ codes "0 FILE x" ++ 10 ∷ codes "c") ≡ block false (codes "x") (codes "b" ∷ []) ∷ [] }
     ensures no_file { blocks_of (codes "own") (codes "a" ++ 10 ∷ codes "0 !DATA" ++ 10 ∷ codes "b") ≡ block false (codes "own") (codes "a" ∷ []) ∷ block true (codes "own") (codes "b" ∷ []) ∷ [] }
     ensures text { text_of (codes "own") (codes "0 !DATA x" ++ 10 ∷ codes "b" ++ 10 ∷ codes "0 FILE x" ++ 10 ∷ codes "c") ≡ codes "c" ∷ [] }
+    ensures joined { join_of (block false (codes "my car.ldr") (codes "2 24 0 0 0 1 0 0" ∷ []) ∷ block false (codes "a.ldr") [] ∷ []) ≡ Ok (codes "0 FILE my car.ldr" ++ 13 ∷ 10 ∷ codes "2 24 0 0 0 1 0 0" ++ 13 ∷ 10 ∷ codes "0 FILE a.ldr" ++ 13 ∷ 10 ∷ []) }
+    ensures later { join_of (block false (codes "my car.ldr") (codes "2 24 0 0 0 1 0 0" ∷ []) ∷ block false (codes "a.ldr") [] ∷ block false (codes "a.ldr") [] ∷ []) ≡ Err (BadBlock 3) }
     ensures no_text { join_of [] ≡ Err NoText }
     ensures block_line { join_of (block false (codes "x") (codes "0 NOFILE" ∷ []) ∷ []) ≡ Err (BadBlock 1) }
 {}

@@ -64,8 +64,13 @@ fn tell_answer(
     }
 }
 
-// Tells the weight of a loaded model, an Insert of `0` at its line 2, and the number of entries of
-// its answer, over a shelf with a part `x.dat`.
+fn tell_fetches(alloc: Global, shelf: &MemShelf, told: &mut String) -> bool {
+    let fetches = shelf.fetches();
+    put(told, format!(in alloc; ", {fetches} fetched"))
+}
+
+// Tells the weight of a loaded model, an Insert of `0` at its line 2, the number of entries of its
+// answer, and how many files were fetched, over a shelf with a part `x.dat`.
 fn tell_loaded(
     alloc: Global,
     workspace: &mut Workspace,
@@ -81,6 +86,7 @@ fn tell_loaded(
     put(told, format!(in alloc; "{weight} "))
         && tell_edit(alloc, workspace, &mut shelf, main, told)
         && tell_answer(alloc, workspace, &mut shelf, main, told)
+        && tell_fetches(alloc, &shelf, told)
 }
 
 fn tell_model(alloc: Global, limits: Limits, model: &[u8], part: &[u8], told: &mut String) -> bool {
@@ -108,9 +114,10 @@ fn gives(alloc: Global, limits: Limits, model: &[u8], part: &[u8], wanted: &str)
 const BIG_PART: &[u8] = b"0 34567890123456789012345678901234567890_";
 
 const BIG: &str =
-    "66 Ok(()) TooBig(FileId { folder: Parts, name: Name { bytes: List { items: [120, 46, 100, 97, 116] } } })";
+    "66 Ok(()) TooBig(FileId { folder: Parts, name: Name { bytes: List { items: [120, 46, 100, 97, 116] } } }), 2 fetched";
 
-// The worked example workspace-limits, and a model within all limits.
+// The worked example workspace-limits, and a model within all limits. Where the list of files is full,
+// none is fetched to be dropped.
 #[test]
 fn workspace_limits(rt: HostRuntime) {
     let alloc = rt.alloc();
@@ -128,9 +135,12 @@ fn workspace_limits(rt: HostRuntime) {
         cache: 8_000_001,
         ..few
     };
-    assert!(rt; gives(alloc, SMALL, X, LINE, "66 Ok(()) 2"), "within");
     assert!(rt;
-        gives(alloc, few, X, b"", "66 Ok(()) Full(Files(2))"),
+        gives(alloc, SMALL, X, LINE, "66 Ok(()) 2, 2 fetched"),
+        "within"
+    );
+    assert!(rt;
+        gives(alloc, few, X, b"", "66 Ok(()) Full(Files(2)), 1 fetched"),
         "files"
     );
     assert!(rt; gives(alloc, short, X, BIG_PART, BIG), "bytes of a file");
@@ -140,7 +150,7 @@ fn workspace_limits(rt: HostRuntime) {
             light,
             b"0 a b cd",
             b"",
-            "40 Err(Refused(Full(40))) 0"
+            "40 Err(Refused(Full(40))) 0, 0 fetched"
         ),
         "edit"
     );

@@ -135,6 +135,32 @@ drop\tparts\tx.dat
 faces^parts x.dat
 ~4 3 1
 ok
+@fetch of a file to check fails
+check m.ldr!1 0 0
+^work m.ldr
+1 16 0 0 0 1 0 0 0 1 0 0 0 1 x.dat
+~4 1 0
+@fetch of the colour file of a made-up model fails
+gen 1 --colours c.ldr!1 0 0
+^work c.ldr
+~4 1 0
+@fetch of the file of a script fails
+replay m.ldr s.txt --colours c.ldr!1 0 0
+^work m.ldr
+^work s.txt
+faces^work c.ldr
+~4 1 0
+@fetch of the colour file of a script fails
+replay m.ldr s.txt --colours c.ldr!3 0 0
+^work m.ldr
+^work s.txt
+faces^work c.ldr
+~4 3 0
+@a script without a command puts nothing
+replay m.ldr s.txt!0 0 0
+^work m.ldr
+^work s.txt
+~0 2 0
 @no file is fetched for findings but the model
 check m.ldr!0 0 0
 ^work m.ldr

@@ -19,7 +19,8 @@ const COLOURS: &[u8] = b"0 !COLOUR Red CODE 4 VALUE #C91A09 EDGE #333333\n\
 0 !COLOUR Blue CODE 1 VALUE 0x0055bf EDGE 0\n\
 0 !COLOUR Black CODE 0 VALUE #05131D EDGE #595959";
 
-// The lines of text 0; text 1 is a part, and text 2 a primitive.
+// The lines of text 0; text 1 is a part, text 2 a primitive, and texts 3 and 4 lie in further
+// documents.
 const MODEL: &[u8] = b"1 16 0 0 0 1 0 0 0 1 0 0 0 1 S\\Gone.DAT\n\
 1 16 0 0 0 1 0 0 0 1 0 0 0 1 C:\\x.dat\n\
 6 junk";
@@ -36,6 +37,8 @@ d3355443|nocert clip ccw|0|2|2 24 0 0 0 1 0 0 => line 0x2333333 #333333 nocert c
 4294967295|cert clip ccw|1|7|4 16 -40 0 -20 -40 0 20 40 0 20 40 0 -20 => quad 4294967295 - cert clip ccw -40,0,-20 -40,0,20 40,0,20 40,0,-20 parts/3001.dat:7
 4|nocert clip ccw|0|1|1 => part 4 #C91A09 parts/3001.dat at model/my car.ldr:1
 e2|nocert clip ccw|2|30|2 => part e2 - p/stud.dat at p/stud.dat:30
+1|nocert clip ccw|3|2|2 24 0 0 0 1 0 0 => line 1 #0055BF nocert clip ccw 0,0,0 1,0,0 model2/my car.ldr:2
+4|nocert clip ccw|0|1|4 => part 4 #C91A09 model16/my car.ldr at model/my car.ldr:1
 m|nocert clip ccw|0|1|9 => part 16 -  at model/my car.ldr:1";
 
 // Faults; and the text and the line of each, and its printed line.
@@ -109,9 +112,11 @@ fn learn_at(
 
 fn known(alloc: Global) -> Result<Texts, Fail> {
     let mut texts = Texts::new(alloc, 9, 10_000);
-    learn_at(alloc, &mut texts, Folder::Model, "My Car.ldr", MODEL)?;
+    learn_at(alloc, &mut texts, Folder::Model(1), "My Car.ldr", MODEL)?;
     learn_at(alloc, &mut texts, Folder::Parts, "3001.dat", b"0")?;
     learn_at(alloc, &mut texts, Folder::P, "stud.dat", b"0")?;
+    learn_at(alloc, &mut texts, Folder::Model(2), "My Car.ldr", b"0")?;
+    learn_at(alloc, &mut texts, Folder::Model(16), "My Car.ldr", b"0")?;
     Ok(texts)
 }
 

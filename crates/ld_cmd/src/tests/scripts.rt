@@ -6,15 +6,15 @@ use std::alloc::{AllocError, Global};
 
 // A script and its commands. `|` stands for a TAB, `~` for a line feed and `^` for a carriage return;
 // a text stands between `<` and `>`.
-const SCRIPTS: &str = "set|model|m.ldr|1|0 x => Set Model m.ldr 1 <0 x>\n\
-set|model|m.ldr|1| => Set Model m.ldr 1 <>\n\
-set|model|m.ldr|1|a|b|| => Set Model m.ldr 1 <a|b||>\n\
-set|model|m.ldr|1||x => Set Model m.ldr 1 <|x>\n\
+const SCRIPTS: &str = "set|model|m.ldr|1|0 x => Set Model(1) m.ldr 1 <0 x>\n\
+set|model|m.ldr|1| => Set Model(1) m.ldr 1 <>\n\
+set|model|m.ldr|1|a|b|| => Set Model(1) m.ldr 1 <a|b||>\n\
+set|model|m.ldr|1||x => Set Model(1) m.ldr 1 <|x>\n\
 set|model|m.ldr|1 => Bad 1\n\
-set|model|m.ldr|0|x => Set Model m.ldr 0 <x>\n\
-set|model|m.ldr|0000000001|x => Set Model m.ldr 1 <x>\n\
+set|model|m.ldr|0|x => Set Model(1) m.ldr 0 <x>\n\
+set|model|m.ldr|0000000001|x => Set Model(1) m.ldr 1 <x>\n\
 set|model|m.ldr|00000000001|x => Bad 1\n\
-set|model|m.ldr|4294967295|x => Set Model m.ldr 4294967295 <x>\n\
+set|model|m.ldr|4294967295|x => Set Model(1) m.ldr 4294967295 <x>\n\
 set|model|m.ldr|4294967296|x => Bad 1\n\
 set|model|m.ldr|+1|x => Bad 1\n\
 set|model|m.ldr|1.0|x => Bad 1\n\
@@ -23,6 +23,8 @@ set|model|m.ldr| 1|x => Bad 1\n\
 set|model||1|x => Bad 1\n\
 set|Model|m.ldr|1|x => Bad 1\n\
 set|lib|m.ldr|1|x => Bad 1\n\
+set|model1|m.ldr|1|x => Bad 1\n\
+set|model2|m.ldr|1|x => Bad 1\n\
 set||m.ldr|1|x => Bad 1\n\
 set|parts| S\\3001S01.DAT |7|x => Set Parts s/3001s01.dat 7 <x>\n\
 set|p|4-4 disc.dat|7|x => Set P 4-4 disc.dat 7 <x>\n\
@@ -31,15 +33,15 @@ set|p|c:x.dat|7|x => Bad 1\n\
 \x20set|model|m.ldr|1|x => Bad 1\n\
 SET|model|m.ldr|1|x => Bad 1\n\
 set model m.ldr 1 x => Bad 1\n\
-ins|model|m.ldr|2|0 x => Insert Model m.ldr 2 <0 x>\n\
-ins|model|m.ldr|2| => Insert Model m.ldr 2 <>\n\
+ins|model|m.ldr|2|0 x => Insert Model(1) m.ldr 2 <0 x>\n\
+ins|model|m.ldr|2| => Insert Model(1) m.ldr 2 <>\n\
 ins|model|m.ldr|2 => Bad 1\n\
 ins|model|m.ldr|x|0 x => Bad 1\n\
-del|model|m.ldr|3 => Delete Model m.ldr 3\n\
+del|model|m.ldr|3 => Delete Model(1) m.ldr 3\n\
 del|model|m.ldr|3| => Bad 1\n\
 del|model|m.ldr|x => Bad 1\n\
 del|model|m.ldr => Bad 1\n\
-new|model|a b.ldr => New Model a b.ldr\n\
+new|model|a b.ldr => New Model(1) a b.ldr\n\
 new|model|a.ldr| => Bad 1\n\
 new|model|nnnnnnnnnnnnnnnnnnnnnnnnnnnnnnnnnnnnnnnnnnnnnnnnnnnnnnnnnnnnnnnn\
 nnnnnnnnnnnnnnnnnnnnnnnnnnnnnnnnnnnnnnnnnnnnnnnnnnnnnnnnnnnnnnnn\
@@ -50,7 +52,7 @@ new|model => Bad 1\n\
 new => Bad 1\n\
 drop|p|A.DAT => Drop P a.dat\n\
 drop|p||A.DAT => Bad 1\n\
-move|model|a.ldr|parts|B.dat => Move Model a.ldr Parts b.dat\n\
+move|model|a.ldr|parts|B.dat => Move Model(1) a.ldr Parts b.dat\n\
 move|model|a.ldr|parts|B.dat| => Bad 1\n\
 move|model|a.ldr|parts||B.dat => Bad 1\n\
 move|model|a.ldr|parts => Bad 1\n\
@@ -60,7 +62,7 @@ faces => Faces\n\
 steps => Steps\n\
 parts => Parts\n\
 faces| => Bad 1\n\
-faces|model|m.ldr|16 => Faces Model m.ldr 16\n\
+faces|model|m.ldr|16 => Faces Model(1) m.ldr 16\n\
 steps|parts|x.dat|0x2FF0000 => Steps Parts x.dat 50266112\n\
 parts|model|m.ldr|red => Bad 1\n\
 faces|model|m.ldr => Bad 1\n\
@@ -78,8 +80,8 @@ faces~ => Faces\n\
 faces^~#x~~steps^ => Faces, Steps\n\
 ^ =>\x20\n\
 faces^^ => Bad 1\n\
-set|model|m.ldr|1|x^~ => Set Model m.ldr 1 <x>\n\
-set|model|m.ldr|1|x^y => Set Model m.ldr 1 <x^y>\n\
+set|model|m.ldr|1|x^~ => Set Model(1) m.ldr 1 <x>\n\
+set|model|m.ldr|1|x^y => Set Model(1) m.ldr 1 <x^y>\n\
 faces~jump~steps~drop => Faces, Bad 2, Steps, Bad 4";
 
 fn script_byte(byte: u8) -> u8 {
@@ -158,6 +160,8 @@ fn edit_shown(alloc: Global, edit: &Edit) -> Result<String, AllocError> {
         }
         Edit::Delete { file, line } => line_shown(alloc, "Delete", file, *line),
         Edit::New { file } => named_shown(alloc, "New", file),
+        // No word of a script makes one.
+        Edit::Restore { file, .. } => named_shown(alloc, "Restore", file),
         Edit::Drop { file } => named_shown(alloc, "Drop", file),
         Edit::Move { from, to } => move_shown(alloc, from, to),
     }

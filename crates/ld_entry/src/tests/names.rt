@@ -65,13 +65,14 @@ fn normal_forms(rt: HostRuntime) {
 }
 
 // Files, and how a part's name stands to each.
-static FILES: [(Folder, &[u8], Ordering); 7] = [
+static FILES: [(Folder, &[u8], Ordering); 8] = [
     (Folder::Parts, b"S\\3001S01.DAT", Ordering::Equal),
     (Folder::Parts, b"s/3001s01.da", Ordering::Greater),
     (Folder::Parts, b"s/3001s01.dat1", Ordering::Less),
     (Folder::Parts, b"s/3001s01.da\xff", Ordering::Less),
-    (Folder::Model, b"s/3001s01.dat", Ordering::Greater),
-    (Folder::Model, b"z", Ordering::Greater),
+    (Folder::Model(1), b"s/3001s01.dat", Ordering::Greater),
+    (Folder::Model(1), b"z", Ordering::Greater),
+    (Folder::Model(16), b"z", Ordering::Greater),
     (Folder::P, b"a", Ordering::Less),
 ];
 
@@ -127,8 +128,17 @@ fn files(rt: HostRuntime) -> Result<(), NameError> {
 }
 
 // The folders in which a file is looked for, and how many of them there are.
-const ORDERS: [(Folder, u8, [Folder; 3]); 3] = [
-    (Folder::Model, 3, [Folder::Model, Folder::Parts, Folder::P]),
+const ORDERS: [(Folder, u8, [Folder; 3]); 4] = [
+    (
+        Folder::Model(1),
+        3,
+        [Folder::Model(1), Folder::Parts, Folder::P],
+    ),
+    (
+        Folder::Model(16),
+        3,
+        [Folder::Model(16), Folder::Parts, Folder::P],
+    ),
     (Folder::Parts, 2, [Folder::Parts, Folder::P, Folder::P]),
     (Folder::P, 2, [Folder::Parts, Folder::P, Folder::P]),
 ];
@@ -196,11 +206,13 @@ fn normal_forms_by_definition()
 #[tactic(auto, unfolding(ld_names::specs::Standing::find, ld_names::specs::Standing::known_map, ld_names::specs::Standing::same_file, ld_names::specs::Standing::folders_of, ld_names::specs::Standing::standing))]
 fn lookups_by_definition()
     ensures unknown { find (λ _. None) P (codes "x") ≡ Unknown Parts }
-    ensures absent { find (λ _. Some None) Model (codes "x") ≡ Absent }
+    ensures absent { find (λ _. Some None) (Model 1) (codes "x") ≡ Absent }
     ensures present { let x : FileId = record { folder = Parts; name = codes "x" } in
-        find (known_map ((record x { folder = Model }, None) ∷ (x, Some []) ∷ (x, None) ∷ [])) Model x.name ≡ Present x }
+        find (known_map ((record x { folder = Model 1 }, None) ∷ (x, Some []) ∷ (x, None) ∷ [])) (Model 1) x.name ≡ Present x }
     ensures behind_unknown { let x : FileId = record { folder = P; name = codes "x" } in
-        find (known_map ((x, Some []) ∷ [])) Model x.name ≡ Unknown Model }
+        find (known_map ((x, Some []) ∷ [])) (Model 1) x.name ≡ Unknown (Model 1) }
+    ensures document { let x : FileId = record { folder = Model 2; name = codes "x" } in
+        map (λ document. find (known_map ((record x { folder = Model 1 }, None) ∷ (x, Some []) ∷ [])) (Model document) x.name) (1 ∷ 2 ∷ 3 ∷ []) ≡ Unknown Parts ∷ Present x ∷ Unknown (Model 3) ∷ [] }
     ensures standing { let x : FileId = record { folder = P; name = codes "x" } in
         let y : FileId = record { folder = P; name = codes "y" } in
         map (standing (known_map ((x, None) ∷ [])) (λ _. Some [])) (x ∷ y ∷ []) ≡ Some None ∷ Some (Some []) ∷ [] }

@@ -9,6 +9,8 @@ use Rattle.ld_cmd.proofs.replay.answer_all.Given as goal
 abbrev pub invariant-loop-command : goal.invariant-loop-command
 invariant-loop-command g l = record {
   limits : l.workspace.limits ≡ l.setting.limits;
+  few : length l.rest ≤ length l.commands;
+  unput : length l.rest ≡ length l.commands → l.out ≡ l.initial.out;
   same : g.S.Shelf.files l.shelf ≡ g.S.Shelf.files l.initial.shelf;
   told_same : is_some (g.K.Sink.taken l.out) ≡ is_some (g.K.Sink.taken l.initial.out);
   read : g.S.Shelf.faults l.initial.shelf ≤ g.S.Shelf.faults l.shelf;

@@ -5,7 +5,7 @@ use Rattle.ld_cmd.proofs.replay.answer_command.Goals as goal
 
 pub returns-in-Ok-clause-goes_on : goal.returns-in-Ok-clause-goes_on
 returns-in-Ok-clause-goes_on g c =
-    rw c.reply.ensures.same (reply-answers (setting_shown c.args.setting.now) (g.S.Shelf.files c.args.shelf.now) c.args.workspace.now.texts.known c.reply.new.workspace.texts.known c.args.command.now c.in-Ok.reply (g.K.Sink.taken c.args.out.now) (g.K.Sink.taken c.put.new.out) c.put.result c.in-Ok.ensures.told c.put.ensures.told_same (rw c.as_slice.ensures at c.put.ensures.whole) (rw c.as_slice.ensures at c.put.ensures.part)).0
+    rw c.reply.ensures.shelf.same (reply-answers (setting_shown c.args.setting.now) (g.S.Shelf.files c.args.shelf.now) c.args.workspace.now.texts.known c.reply.new.workspace.texts.known c.args.command.now c.in-Ok.reply (g.K.Sink.taken c.args.out.now) (g.K.Sink.taken c.put.new.out) c.put.result c.in-Ok.ensures.told c.put.ensures.told_same (rw c.as_slice.ensures at c.put.ensures.whole) (rw c.as_slice.ensures at c.put.ensures.part)).0
 
 pub returns-in-Ok-clause-stops : goal.returns-in-Ok-clause-stops
 returns-in-Ok-clause-stops g c =

@@ -3,7 +3,8 @@ use Rattle.ld_words.specs.Words.{intent_of, usage_line}
 use Rattle.ld_cmd.specs.Output.{output}
 use Rattle.ld_cmd.specs.Replying.{session_output}
 use Rattle.ld_cmd.specs.declared.status.Status.TheVariants.{Memory, ReadFault, Usage}
-use Rattle.ld_cmd.proofs.Endings.{complete_where_told, in-grammar, none-in_front, none-lost, none-put, none-taken, same_ends, same_takes, stopped-ends, unput-told, usage-elsewhere, usage_ends, usage_takes, usage-told}
+use Rattle.ld_cmd.proofs.Endings.{complete_where_told, in-grammar, none-in_front, none-lost, none-put, none-taken, same_ends, same_takes, stopped-ends, unput-same, unput-told, usage-elsewhere, usage_ends, usage_takes, usage-told}
+use Rattle.ld_cmd.proofs.Risen.{risen-on}
 use Rattle.ld_cmd.proofs.run.run.Goals as goal
 
 pub returns-then-not-is_command-clause-status : goal.returns-then-not-is_command-clause-status
@@ -28,7 +29,7 @@ returns-then-not-is_command-clause-complete g c = λ read written.
     complete_where_told c.put_last.result (output words) files (g.K.Sink.taken c.args.out.now) (g.K.Sink.taken c.put_last.new.out) ends takes c.put_last.ensures.never_read (λ is. written (c.put_last.ensures.cause is))
 
 pub returns-then-not-is_command-clause-unput : goal.returns-then-not-is_command-clause-unput
-returns-then-not-is_command-clause-unput g c = λ once.
+returns-then-not-is_command-clause-unput g c =
     let words = map string_bytes c.args.words.now in
     unput-told c.args.out.now c.put_last.new.out usage_line Usage (output words) (g.S.Shelf.files c.args.shelf.now) (usage-told words (g.S.Shelf.files c.args.shelf.now) c.is_command.result c.is_command.ensures c.if-not-is_command.true) c.put_last.ensures.unput
 
@@ -41,23 +42,25 @@ returns-in-Ok-Play g c =
     let some = in-grammar (intent_of words) c.is_command.result c.is_command.ensures c.if-not-is_command.false in
     let made = session_output c.in-Ok-Play.session in
     let told = rw c.in-Ok-Play.field-0-is at c.in-Ok-Play.ensures.told in
-    let ends = same_ends c.play.result made (output words) files told (rw c.make_work.ensures.same at c.play.ensures.status) in
-    let takes = same_takes c.play.result made (output words) files before after told (rw c.make_work.ensures.same at c.play.ensures.taken) in
+    let ends = same_ends c.play.result made (output words) files told (rw c.make_work.ensures.shelf.same at c.play.ensures.status) in
+    let takes = same_takes c.play.result made (output words) files before after told (rw c.make_work.ensures.shelf.same at c.play.ensures.taken) in
     record {
       status = ends;
       taken = takes;
-      complete = λ read written. complete_where_told c.play.result (output words) files before after ends takes (λ is. read (omega (arith, c.make_work.ensures.never_falls, c.play.ensures.read_cause is))) (λ is. written (c.play.ensures.write_cause is));
+      complete = λ read written. complete_where_told c.play.result (output words) files before after ends takes (λ is. read (risen-on _ _ _ c.make_work.ensures.shelf.never_falls (c.play.ensures.shelf.cause is))) (λ is. written (c.play.ensures.write_cause is));
       usage = usage-elsewhere (intent_of words) c.play.result some c.play.ensures.no_usage;
       usage_taken = λ none. absurd (some none);
       usage_unread = λ none. absurd (some none);
-      read_cause = λ is. omega (arith, c.make_work.ensures.never_falls, c.play.ensures.read_cause is);
+      shelf = record {
+        same = c.play.ensures.shelf.same ∙ c.make_work.ensures.shelf.same;
+        never_falls = omega (arith, c.make_work.ensures.shelf.never_falls, c.play.ensures.shelf.never_falls);
+        cause = λ is. risen-on _ _ _ c.make_work.ensures.shelf.never_falls (c.play.ensures.shelf.cause is);
+      };
       write_cause = c.play.ensures.write_cause;
       nothing = λ once. absurd (rw c.in-Ok-Play.field-0-is at (c.in-Ok-Play.ensures.once once));
-      unput = λ once. absurd (rw c.in-Ok-Play.field-0-is at (c.in-Ok-Play.ensures.once once));
+      unput = unput-same c.args.out.now c.play.new.out made (output words) files told (rw c.make_work.ensures.shelf.same at c.play.ensures.unput);
       in_front = c.play.ensures.in_front;
-      same_files = c.play.ensures.same ∙ c.make_work.ensures.same;
       told_same = c.play.ensures.told_same;
-      shelf_faults = omega (arith, c.make_work.ensures.never_falls, c.play.ensures.shelf_faults);
       sink_faults = c.play.ensures.sink_faults;
     }
 
@@ -67,7 +70,7 @@ returns-in-Err-ReadFault g c =
     let files = g.S.Shelf.files c.args.shelf.now in
     let before = g.K.Sink.taken c.args.out.now in
     let some = in-grammar (intent_of words) c.is_command.result c.is_command.ensures c.if-not-is_command.false in
-    let risen = c.in-Err-ReadFault.ensures.cause (ap Err c.in-Err-ReadFault.field-0-is) in
+    let risen = c.in-Err-ReadFault.ensures.shelf.cause (ap Err c.in-Err-ReadFault.field-0-is) in
     record {
       status = stopped-ends ReadFault (output words) files (λ whole. absurd (cc));
       taken = none-taken (output words) files before;
@@ -75,14 +78,12 @@ returns-in-Err-ReadFault g c =
       usage = usage-elsewhere (intent_of words) ReadFault some (λ is. absurd (cc));
       usage_taken = λ none. absurd (some none);
       usage_unread = λ none. absurd (some none);
-      read_cause = λ is. risen;
+      shelf = record { same = c.make_work.ensures.shelf.same; never_falls = c.make_work.ensures.shelf.never_falls; cause = λ is. risen };
       write_cause = λ is. absurd (cc);
       nothing = λ once. none-lost before;
-      unput = λ once. none-put c.args.out.now (output words) files;
+      unput = none-put c.args.out.now (output words) files;
       in_front = none-in_front before;
-      same_files = c.make_work.ensures.same;
       told_same = refl;
-      shelf_faults = c.make_work.ensures.never_falls;
       sink_faults = omega arith;
     }
 
@@ -101,13 +102,11 @@ returns-in-Err-Memory g c =
       usage = usage-elsewhere (intent_of words) Memory some (λ is. absurd (cc));
       usage_taken = λ none. absurd (some none);
       usage_unread = λ none. absurd (some none);
-      read_cause = λ is. absurd (cc);
+      shelf = record { same = c.make_work.ensures.shelf.same; never_falls = c.make_work.ensures.shelf.never_falls; cause = λ is. absurd (cc) };
       write_cause = λ is. absurd (cc);
       nothing = λ once. none-lost before;
-      unput = λ once. none-put c.args.out.now (output words) files;
+      unput = none-put c.args.out.now (output words) files;
       in_front = none-in_front before;
-      same_files = c.make_work.ensures.same;
       told_same = refl;
-      shelf_faults = c.make_work.ensures.never_falls;
       sink_faults = omega arith;
     }

@@ -4,8 +4,8 @@ use Rattle.ld_entry.specs.Carrying.{above_of}
 use Rattle.ld_engine.proofs.Gathered.{refused}
 use Rattle.ld_engine.proofs.carrying.carry_from.Goals as goal
 
-pub returns-in-Err : goal.returns-in-Err
-returns-in-Err c =
+pub returns-in-Err-clause-carries : goal.returns-in-Err-clause-carries
+returns-in-Err-clause-carries c =
     let items = c.loop-index.entries.items in
     let index = c.loop-index.index in
     let entry = c.index.result.now in

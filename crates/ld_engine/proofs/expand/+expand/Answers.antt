@@ -49,7 +49,7 @@ enter_file-returns-clause-extends t c =
     let base = c.push_part.new.entries.items in
     let sub = c.in_ok-end.ensures.extends in
     let start : c.len-start.result ≡ length base = omega arith in
-    let carries : CarriesFrom (above_of c.passed_down-outer.result) (length base) (base ++ sub.0) c.carry_from-refusal.new.entries.items c.carry_from-refusal.result = subst (λ es. CarriesFrom (above_of c.passed_down-outer.result) (length base) es c.carry_from-refusal.new.entries.items c.carry_from-refusal.result) sub.1 (subst (λ n. CarriesFrom (above_of c.passed_down-outer.result) n c.expand_text.new.entries.items c.carry_from-refusal.new.entries.items c.carry_from-refusal.result) start c.carry_from-refusal.ensures) in
+    let carries : CarriesFrom (above_of c.passed_down-outer.result) (length base) (base ++ sub.0) c.carry_from-refusal.new.entries.items c.carry_from-refusal.result = subst (λ es. CarriesFrom (above_of c.passed_down-outer.result) (length base) es c.carry_from-refusal.new.entries.items c.carry_from-refusal.result) sub.1 (subst (λ n. CarriesFrom (above_of c.passed_down-outer.result) n c.expand_text.new.entries.items c.carry_from-refusal.new.entries.items c.carry_from-refusal.result) start c.carry_from-refusal.ensures.carries) in
     extends-on c.args.entries.now.items base c.carry_from-refusal.new.entries.items c.in_ok-push_part.ensures.extends (extends-carried (above_of c.passed_down-outer.result) base sub.0 c.carry_from-refusal.new.entries.items c.carry_from-refusal.result carries)
 
 pub enter_file-returns-clause-gathers : goal.enter_file-returns-clause-gathers
@@ -67,7 +67,7 @@ enter_file-returns-clause-gathers t c =
     let part : Gathers c.args.most old base None (part_outcomes (alone texts way r.source.text) r.source r.colour c.args.file) = subst (λ (s : Source). Gathers c.args.most old base None (part_outcomes (alone texts way s.text) s r.colour c.args.file)) c.passed_down-outer.ensures.source (c.in_ok-push_part.ensures.gathers way c.args.most r.colour c.passed_down-outer.ensures.colour) in
     let start : c.len-start.result ≡ length base = omega arith in
     let room : c.args.most ≡ length base + (c.args.most - length base) = omega arith in
-    let carries : CarriesFrom above (length base) (base ++ sub.0) c.carry_from-refusal.new.entries.items c.carry_from-refusal.result = subst (λ es. CarriesFrom above (length base) es c.carry_from-refusal.new.entries.items c.carry_from-refusal.result) sub.1 (subst (λ n. CarriesFrom above n c.expand_text.new.entries.items c.carry_from-refusal.new.entries.items c.carry_from-refusal.result) start c.carry_from-refusal.ensures) in
+    let carries : CarriesFrom above (length base) (base ++ sub.0) c.carry_from-refusal.new.entries.items c.carry_from-refusal.result = subst (λ es. CarriesFrom above (length base) es c.carry_from-refusal.new.entries.items c.carry_from-refusal.result) sub.1 (subst (λ n. CarriesFrom above n c.expand_text.new.entries.items c.carry_from-refusal.new.entries.items c.carry_from-refusal.result) start c.carry_from-refusal.ensures.carries) in
     let way' : c.push.new.self.items ≡ way ++ r.source.text ∷ [] = c.in_ok-push.ensures.ok in
     let gives : Gathers c.args.most base (base ++ sub.0) c.in_ok-end.end (all further (alone texts (way ++ r.source.text ∷ []) c.args.file)) = subst (λ w. Gathers c.args.most base (base ++ sub.0) c.in_ok-end.end (all further (alone texts w c.args.file))) way' (subst (λ es. Gathers c.args.most base es c.in_ok-end.end (all further (alone texts c.push.new.self.items c.args.file))) sub.1 c.in_ok-end.ensures.gathers) in
     let below = carried-gathered c.cut_laws.ensures above c.args.most (c.args.most - length base) base sub.0 c.carry_from-refusal.new.entries.items c.in_ok-end.end c.carry_from-refusal.result (all further (alone texts (way ++ r.source.text ∷ []) c.args.file)) room gives carries in
@@ -82,7 +82,7 @@ expand_met-returns-in-Fails-clause-gathers t c =
 
 pub expand_text-loop-met-init : goal.expand_text-loop-met-init
 expand_text-loop-met-init t c =
-    record { read = c.requires.read; way = refl; extends = ([], sym (append-nil c.args.entries.now.items)); within = omega arith; rest = begun c.args.most c.args.left (known_texts c.args.texts.now.known) c.args.way.now.items c.args.text c.args.entries.now.items c.under_laws.ensures }
+    record { read = c.requires.read; way = refl; extends = ([], sym (append-nil c.args.entries.now.items)); few = λ old. omega arith; within = omega arith; rest = begun c.args.most c.args.left (known_texts c.args.texts.now.known) c.args.way.now.items c.args.text c.args.entries.now.items c.under_laws.ensures }
 
 pub expand_text-returns-then-len-most-clause-gathers : goal.expand_text-returns-then-len-most-clause-gathers
 expand_text-returns-then-len-most-clause-gathers t c =
@@ -119,6 +119,7 @@ expand_text-loop-met-preserved t c =
       read = c.in_ok-end.ensures.read;
       way = c.in_ok-end.ensures.way ∙ c.loop-met.invariant.way;
       extends = extends-on old c.loop-met.entries.items c.expand_met.new.entries.items c.loop-met.invariant.extends c.in_ok-end.ensures.extends;
+      few = λ old. c.in_ok-end.ensures.within (omega arith);
       within = omega arith;
       rest = met-done c.args.most c.args.left texts way c.args.text old c.loop-met.entries.items c.expand_met.new.entries.items c.loop-met.before (c.loop-met.before + 1) c.in-Some.met at number c.loop-met.invariant.rest step;
     }

@@ -19,6 +19,14 @@ pub returns-clause-text : goal.returns-clause-text
 unfolding blocks_of text_of text_blocks lines_of block_line_of fields after_field normal_of
 returns-clause-text c = refl
 
+pub returns-clause-joined : goal.returns-clause-joined
+unfolding join_of block_line_of fields
+returns-clause-joined c = refl
+
+pub returns-clause-later : goal.returns-clause-later
+unfolding join_of block_line_of fields
+returns-clause-later c = refl
+
 pub returns-clause-no_text : goal.returns-clause-no_text
 unfolding join_of
 returns-clause-no_text c = refl

@@ -9,7 +9,7 @@ use Rattle.ld_engine.specs.Keeping.{StopsAt, Tells}
 use Rattle.ld_engine.specs.declared.limits.Limits.{Limits}
 use Rattle.ld_engine.proofs.Reached.{id-behind}
 use Rattle.ld_engine.proofs.Roots.{begun-inside, begun-rest, inside-behind, next-wanted, nothing-wanted, rest-behind}
-use Rattle.ld_engine.proofs.Wanted.{learns-more, one-more, stops-file, told-first, told-end, told-more, told-stop}
+use Rattle.ld_engine.proofs.Wanted.{learns-more, none-wanted, one-more, stops-file, told-first, told-end, told-more, told-stop}
 use Rattle.ld_engine.specs.Learning.{wanted_for}
 use Rattle.ld_engine.proofs.workspace.Workspace.learn_for.Goals as goal
 
@@ -26,6 +26,7 @@ loop-going-init g c =
       rest = λ more. begun-rest c.number_law.ensures c.learning_law.ensures known root c.in_ok-id.id.0 e.known more ∙ ap (left (known ++ more)) (sym c.in_ok-going.ensures);
       told = e.told;
       same = e.shelf.same;
+      unread = e.unread;
       never_falls = e.shelf.never_falls;
     }
 
@@ -62,6 +63,7 @@ loop-going-preserved g c =
       rest = λ more. ap (λ k. reach (k ++ more) root) is ∙ rest-behind mid root c.loop-going.going i.rest c.next_wanted.new.self file text goes more ∙ ap (λ k. left (k ++ more) c.next_wanted.new.self) (sym is);
       told = told-more c.args.self.now.limits (wanted_for root) c.args.self.now.texts.known mid new (g.S.Shelf.files c.args.shelf.now) c.in_default-learn_file.field-0 i.told step';
       same = e.shelf.same ∙ i.same;
+      unread = none-wanted (wanted_for root) c.args.self.now.texts.known mid file i.learns wants;
       never_falls = omega (arith, e.shelf.never_falls, i.never_falls);
     }
 
@@ -77,6 +79,17 @@ returns-in-Err-clause-stops g c =
     let goes : Goes left mid c.loop-going.going c.next_wanted.new.self (Some file) = subst (λ k. Goes left k c.loop-going.going c.next_wanted.new.self (Some file)) known (rw c.in-Some.is at c.in_ok-file.ensures.goes) in
     let wants : wanted mid root ≡ Some file = next-wanted mid root c.loop-going.going i.rest c.next_wanted.new.self file goes in
     stops-file c.args.self.now.limits (wanted_for root) file mid new c.in-Err.stop wants e.learns (subst (λ (l : Limits). StopsAt l mid file c.in-Err.stop) i.limits e.stops)
+
+pub returns-in-Err-clause-unread : goal.returns-in-Err-clause-unread
+returns-in-Err-clause-unread g c =
+    let i = c.loop-going.invariant in
+    let root = c.args.root.now in
+    let mid = c.loop-going.self.texts.known in
+    let file = c.in-Some.file in
+    let known : c.texts.result.now.known ≡ mid = ap (λ (t : Texts). t.known) c.texts.ensures.texts in
+    let goes : Goes left mid c.loop-going.going c.next_wanted.new.self (Some file) = subst (λ k. Goes left k c.loop-going.going c.next_wanted.new.self (Some file)) known (rw c.in-Some.is at c.in_ok-file.ensures.goes) in
+    let wants : wanted mid root ≡ Some file = next-wanted mid root c.loop-going.going i.rest c.next_wanted.new.self file goes in
+    none-wanted (wanted_for root) c.args.self.now.texts.known mid file i.learns wants
 
 pub returns-in-Err-clause-told : goal.returns-in-Err-clause-told
 returns-in-Err-clause-told g c =

@@ -3,7 +3,7 @@ use Rattle.std.specs.Prelude.{IfSome, is_some}
 use Rattle.ld_engine.specs.Editing.{wanted_by}
 use Rattle.ld_engine.specs.Keeping.{Tells}
 use Rattle.ld_engine.specs.declared.limits.Limits.{Limits}
-use Rattle.ld_engine.proofs.Wanted.{learns-more, told-end, told-first, told-more, told-stop, wants-now}
+use Rattle.ld_engine.proofs.Wanted.{learns-more, none-wanted, told-end, told-first, told-more, told-stop, wants-now}
 use Rattle.ld_engine.proofs.workspace.Workspace.learn_named.Goals as goal
 
 pub loop-file-preserved : goal.loop-file-preserved
@@ -25,6 +25,7 @@ loop-file-preserved g c =
       learns = learns-more wants old mid new file e.learns.0 i.learns next e.learns.1.known;
       told = told-more limits wants old mid new (g.S.Shelf.files c.args.shelf.now) c.in_default-learn_copy.field-0 i.told step';
       same = e.shelf.same ∙ i.same;
+      unread = none-wanted wants old mid file i.learns next;
       never_falls = omega (arith, e.shelf.never_falls, i.never_falls);
     }
 
@@ -52,3 +53,12 @@ returns-clause-told g c =
     let wants = wanted_by c.args.edit.now in
     let none : wants c.loop-file.self.texts.known ≡ None = wants-now wants c.texts.result.now c.loop-file.self.texts None c.texts.ensures.texts c.in_default.ensures in
     told-end c.args.self.now.limits wants c.args.self.now.texts.known c.loop-file.self.texts.known (g.S.Shelf.files c.args.shelf.now) none c.loop-file.invariant.told
+
+pub returns-in-Err-clause-unread : goal.returns-in-Err-clause-unread
+returns-in-Err-clause-unread g c =
+    let i = c.loop-file.invariant in
+    let wants = wanted_by c.args.edit.now in
+    let mid = c.loop-file.self.texts.known in
+    let file = c.in-Some.file.now in
+    let next : wants mid ≡ Some file = wants-now wants c.texts.result.now c.loop-file.self.texts (Some file) c.texts.ensures.texts c.in-Some.ensures in
+    none-wanted wants c.args.self.now.texts.known mid file i.learns next

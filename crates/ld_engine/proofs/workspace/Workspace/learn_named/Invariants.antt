@@ -1,4 +1,4 @@
-use Rattle.std.proofs.Common.{◌≡◌, ◌-◌, ◌≤◌, length}
+use Rattle.std.proofs.Common.{◌≡◌, ◌-◌, ◌≤◌, length, None}
 use Rattle.std.specs.Prelude.{IfSome}
 use Rattle.ld_engine.specs.Editing.{wanted_by}
 use Rattle.ld_engine.specs.Learning.{LearnsBy, learning_by}
@@ -10,6 +10,7 @@ invariant-loop-file g l = record {
   learns : LearnsBy (wanted_by l.edit) l.fn.self.texts.known l.self.texts.known;
   told : IfSome (g.S.Shelf.files l.fn.shelf) (λ files. learning_by l.fn.self.limits files (wanted_by l.edit) l.fn.self.texts.known ≡ learning_by l.fn.self.limits files (wanted_by l.edit) l.self.texts.known);
   same : g.S.Shelf.files l.shelf ≡ g.S.Shelf.files l.fn.shelf;
+  unread : wanted_by l.edit l.fn.self.texts.known ≡ None → l.shelf ≡ l.fn.shelf;
   never_falls : g.S.Shelf.faults l.fn.shelf ≤ g.S.Shelf.faults l.shelf;
 }
 
