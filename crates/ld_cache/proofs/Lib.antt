@@ -1,0 +1,4 @@
+pub mod Tables
+pub mod Whole
+pub mod Forgetting
+pub mod Budget

@@ -1,0 +1,9 @@
+//! Kept expansions of texts, within a budget of blocks that is taken at opening.
+#![tactic(auto)]
+
+mod cache;
+mod kept;
+mod slot;
+
+pub use cache::Cache;
+pub use kept::Kept;

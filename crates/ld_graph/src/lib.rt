@@ -1,0 +1,6 @@
+//! Which texts an edit changes.
+#![tactic(auto)]
+
+mod dirty;
+
+pub use dirty::Dirty;
