@@ -4,6 +4,8 @@
 mod cache;
 mod kept;
 mod slot;
+#[cfg(test)]
+mod tests;
 
 pub use cache::Cache;
 pub use kept::Kept;
