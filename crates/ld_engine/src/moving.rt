@@ -51,7 +51,11 @@ fn part_named(texts: &Texts, from: TextId, name: &Name) -> Option<TextId>
     ensures { result ≡ part_named texts.now.known from name.now }
 {
     let file = found(texts, from, name)?;
-    if texts.is_part(file) { Some(file) } else { None }
+    if texts.is_part(file) {
+        Some(file)
+    } else {
+        None
+    }
 }
 
 // The name to which a text moved.

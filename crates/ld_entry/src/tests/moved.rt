@@ -9,13 +9,34 @@ use std::alloc::Global;
 
 // Lines with `;` between them, and the number of the one reference of what moved.
 const MOVED: [(&str, Option<u32>); 15] = [
-    ("0 ~Moved to 3001;1 16 0 0 0 1 0 0 0 1 0 0 0 1 3001.dat", Some(2)),
-    (" 0\t~Moved  to;0 x;;1 16 0 0 0 1 0 0 0 1 0 0 0 1 c:/x", Some(4)),
-    ("0 ~Moved to x;0 !LDRAW_ORG Part;9;1 16 0 0 0 1 0 0 0 1 0 0 0 1 x", Some(4)),
-    ("0 ~Moved to x;1 16 0 0 0 1 0 0 0 1 0 0 0 1 x;1 16 0 0 0 1 0 0 0 1 0 0 0 1", Some(2)),
-    ("0 ~Moved to x;1 16 0 0 0 1 0 0 0 1 0 0 0 1 x;1 16 0 0 0 1 0 0 0 1 0 0 0 1 x", None),
-    ("0 ~Moved to x;1 16 0 0 0 1 0 0 0 1 0 0 0 1 x;2 24 0 0 0 1 0 0", None),
-    ("0 ~Moved to x;5 24 0 0 0 1 0 0 0 1 0 1 1 0;1 16 0 0 0 1 0 0 0 1 0 0 0 1 x", None),
+    (
+        "0 ~Moved to 3001;1 16 0 0 0 1 0 0 0 1 0 0 0 1 3001.dat",
+        Some(2),
+    ),
+    (
+        " 0\t~Moved  to;0 x;;1 16 0 0 0 1 0 0 0 1 0 0 0 1 c:/x",
+        Some(4),
+    ),
+    (
+        "0 ~Moved to x;0 !LDRAW_ORG Part;9;1 16 0 0 0 1 0 0 0 1 0 0 0 1 x",
+        Some(4),
+    ),
+    (
+        "0 ~Moved to x;1 16 0 0 0 1 0 0 0 1 0 0 0 1 x;1 16 0 0 0 1 0 0 0 1 0 0 0 1",
+        Some(2),
+    ),
+    (
+        "0 ~Moved to x;1 16 0 0 0 1 0 0 0 1 0 0 0 1 x;1 16 0 0 0 1 0 0 0 1 0 0 0 1 x",
+        None,
+    ),
+    (
+        "0 ~Moved to x;1 16 0 0 0 1 0 0 0 1 0 0 0 1 x;2 24 0 0 0 1 0 0",
+        None,
+    ),
+    (
+        "0 ~Moved to x;5 24 0 0 0 1 0 0 0 1 0 1 1 0;1 16 0 0 0 1 0 0 0 1 0 0 0 1 x",
+        None,
+    ),
     ("0 ~Moved to x;1 16 2000000 0 0 1 0 0 0 1 0 0 0 1 x", None),
     ("0 ~Moved to x", None),
     ("0 ~moved to x;1 16 0 0 0 1 0 0 0 1 0 0 0 1 x", None),
@@ -31,9 +52,7 @@ fn moved_holds(alloc: Global, text: &str, wanted: Option<u32>) -> bool {
         return false;
     };
     match lines_of(alloc, text.as_bytes()) {
-        Ok(lines) => {
-            lines.as_slice().len() < 100 && moved_reference(lines.as_slice()) == wanted
-        }
+        Ok(lines) => { lines.as_slice().len() < 100 && moved_reference(lines.as_slice()) == wanted }
         Err(_) => false,
     }
 }
