@@ -83,3 +83,6 @@ all-forgotten dirty old new reached none so =
 
     nothing : (dirty : List Bool) (kept : List (Option Expansion)) (text : ℕ) → get_or kept text None ≡ None → left_of dirty kept text ≡ None
     nothing dirty kept text e = choose (is_dirty dirty (record { 0 = text })) (get_or kept text None) e
+
+pub length_without : (cache : Cached) (dirty : List Bool) → length (without_dirty cache dirty).kept ≡ length cache.kept
+length_without cache dirty = length-map-range_with_len (left_of dirty cache.kept) 0 (length cache.kept)

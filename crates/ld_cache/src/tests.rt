@@ -1,5 +1,5 @@
 //! Expansions kept and forgotten, at the lengths that decide about a block.
-ghost use Rattle.std.specs.Prelude.{◌≡◌, IfOk, length};
+ghost use Rattle.std.specs.Prelude.{◌≡◌, ◌<◌, IfOk, OnOk, length};
 
 use super::*;
 use ld_colour::Colour;
@@ -9,133 +9,157 @@ use ld_names::{List, TextId};
 use ld_num::Point;
 use std::alloc::{AllocError, Global};
 
-// Room for so many entries, an expansion of so many, whether it is kept, and the blocks that are
-// free then.
-static ROWS: [(u32, u32, bool, u32); 9] = [
-    (0, 0, true, 0),
-    (0, 1, false, 0),
-    (255, 1, false, 0),
-    (256, 0, true, 1),
-    (256, 256, true, 0),
-    (256, 257, false, 1),
-    (768, 256, true, 2),
-    (768, 257, true, 1),
-    (1023, 768, true, 0),
+// A text, how many entries it has, and the numbers of kept expansions and of free blocks once it is
+// kept, if there are blocks for it. Where the text is kept already, it is forgotten instead.
+// There are three texts and three blocks.
+static STEPS: [(u32, u32, u32, u32); 10] = [
+    (0, 0, 1, 3),
+    (1, 256, 2, 2),
+    (2, 257, 3, 0),
+    (1, 0, 2, 1),
+    (1, 257, 2, 1),
+    (1, 256, 3, 0),
+    (0, 0, 2, 0),
+    (0, 1, 2, 0),
+    (0, 0, 3, 0),
+    (2, 0, 2, 2),
 ];
 
-// Named where entries are moved: the prover looks for the types inside them among those named.
+// An entry holds points: the prover is told of their type by a use of it.
 const NO_POINTS: [Point; 0] = [];
 
-const END: Fault = Fault {
-    what: What::Missing,
-    source: Source {
-        text: TextId(1),
-        line: 2,
-    },
-};
-
-fn entry(line: u32) -> Entry {
-    Entry::Part {
-        file: TextId(2),
-        colour: Colour::Code(4),
-        source: Source {
-            text: TextId(1),
-            line,
-        },
-    }
-}
-
-// So many entries, one for each line.
-fn entries(alloc: Global, len: u32) -> Result<Vec<Entry>, AllocError>
+// Entries that tell their text, how many they are, and their place.
+fn entries_of(alloc: Global, text: u32, len: u32) -> Result<Vec<Entry>, AllocError>
     ensures { IfOk result (λ entries. length entries.items ≡ len) }
 {
-    let _: [Point; 0] = NO_POINTS;
+    let _ = NO_POINTS;
     let mut entries = Vec::with_capacity(alloc, len as usize)?;
-    for line in 0..len {
-        entries.push(entry(line))?;
+    for place in 0..len {
+        entries.push(Entry::Part {
+            file: TextId(len),
+            colour: Colour::Main,
+            source: Source {
+                text: TextId(text),
+                line: place,
+            },
+        })?;
     }
     Ok(entries)
 }
 
-// They, and a fault behind them.
-fn expansion(alloc: Global, len: u32) -> Result<Expansion, AllocError>
-    ensures { IfOk result (λ expansion. length expansion.entries ≡ len) }
-{
-    let _: [Point; 0] = NO_POINTS;
-    let entries = entries(alloc, len)?;
-    let line_ends = (1..=len).collect(alloc)?;
-    Ok(Expansion {
-        entries: List::from_vec(entries),
-        line_ends: List::from_vec(line_ends),
-        end: Some(END),
+fn end_of(text: u32) -> Option<Fault> {
+    Some(Fault {
+        what: What::Missing,
+        source: Source {
+            text: TextId(text),
+            line: 7,
+        },
     })
 }
 
-// Whether an expansion of so many entries is kept, whole.
-fn is_whole(alloc: Global, kept: &Kept<'_>, len: u32) -> Result<bool, AllocError> {
-    let wanted = expansion(alloc, len)?;
+fn expansion_of(alloc: Global, text: u32, len: u32) -> Result<Expansion, AllocError>
+    ensures { IfOk result (λ expansion. length expansion.entries ≡ len) }
+{
+    let entries = List::from_vec(entries_of(alloc, text, len)?);
+    Ok(Expansion {
+        entries,
+        line_ends: List::from_slice(alloc, &[0, len])?,
+        end: end_of(text),
+    })
+}
+
+#[tactic(auto, using(crate::proofs::Forgetting::length_without))]
+fn forget_text(alloc: Global, cache: &mut Cache, id: TextId) -> Result<(), AllocError>
+    ensures { length cache.new.kept ≡ length cache.old.kept }
+{
+    let mut dirty = Dirty::new(alloc, 3)?;
+    if id.0 < 3 {
+        dirty.mark(id);
+    }
+    cache.forget(&dirty);
+    Ok(())
+}
+
+fn step(alloc: Global, cache: &mut Cache, text: u32, len: u32) -> Result<(), AllocError>
+    requires { text < length cache.old.kept }
+    ensures { length cache.new.kept ≡ length cache.old.kept }
+{
+    let id = TextId(text);
+    if cache.get(id).is_some() {
+        return forget_text(alloc, cache, id);
+    }
+    let expansion = expansion_of(alloc, text, len)?;
+    let _ = cache.keep(id, expansion);
+    Ok(())
+}
+
+// Whether what is kept of a text, if anything is, is its expansion.
+fn is_right(alloc: Global, cache: &Cache, text: u32) -> Result<bool, AllocError> {
+    let Some(kept) = cache.get(TextId(text)) else {
+        return Ok(true);
+    };
+    let len = kept.len();
+    let entries = entries_of(alloc, text, len)?;
     let mut copied = Vec::new(alloc);
     kept.copy_out(&mut copied)?;
-    let ends = kept.line_end(0).is_none()
-        && kept.line_end(len).unwrap_or(0) == len
-        && kept.line_end(len.saturating_add(1)).is_none();
+    let mut first = Vec::new(alloc);
+    kept.copy_first(len / 2, &mut first)?;
+    let last = len == 0 || kept.entry(len - 1) == entries[len as usize - 1];
     Ok(
-        copied.as_slice() == wanted.entries.as_slice()
-            && kept.len() == len
-            && kept.end() == Some(END)
-            && ends,
+        last && copied.as_slice() == entries.as_slice()
+            && first.as_slice() == &entries[..len as usize / 2]
+            && kept.line_end(0).is_none()
+            && kept.line_end(1) == Some(0)
+            && kept.line_end(2) == Some(len)
+            && kept.line_end(3).is_none()
+            && kept.end() == end_of(text),
     )
 }
 
-// What the first text comes to in a cache for two texts.
-fn row(alloc: Global, room: u32, len: u32, is_kept: bool, free: u32) -> Result<bool, AllocError> {
-    let mut cache = Cache::new(alloc, 2, room)?;
-    let given = expansion(alloc, len)?;
-    match cache.keep(TextId(0), given) {
-        Ok(()) => {}
-        Err(back) => {
-            return Ok(
-                !is_kept
-                    && back.entries.as_slice().len() == len as usize
-                    && cache.kept() == 0
-                    && cache.free_blocks() == free,
-            );
+fn are_right(alloc: Global, cache: &Cache) -> Result<bool, AllocError> {
+    Ok(is_right(alloc, cache, 0)? && is_right(alloc, cache, 1)? && is_right(alloc, cache, 2)?)
+}
+
+fn steps(alloc: Global) -> Result<bool, AllocError> {
+    let mut cache = Cache::new(alloc, 3, 1023)?;
+    for (text, len, kept, free) in &STEPS {
+        if *text < 3 {
+            step(alloc, &mut cache, *text, *len)?;
+        }
+        if cache.kept() != *kept || cache.free_blocks() != *free || !are_right(alloc, &cache)? {
+            return Ok(false);
         }
     }
-    let counted = is_kept && cache.kept() == 1 && cache.free_blocks() == free;
-    let Some(kept) = cache.get(TextId(0)) else {
-        return Ok(false);
-    };
-    Ok(counted && is_whole(alloc, &kept, len)? && cache.get(TextId(1)).is_none())
+    Ok(true)
 }
 
 #[test]
-fn kept_where_blocks_are_enough(rt: HostRuntime) -> Result<(), AllocError> {
-    let alloc = rt.alloc();
-    for (room, len, is_kept, free) in &ROWS {
-        assert!(rt; row(alloc, *room, *len, *is_kept, *free)?, "{room} {len}");
-    }
-    Ok(())
+fn keeps_within_the_blocks(rt: HostRuntime) {
+    assert!(rt; steps(rt.alloc()) == Ok(true));
 }
 
-// Forgets the first text, and tells whether nothing is kept then.
-fn forgets(alloc: Global, cache: &mut Cache) -> Result<bool, AllocError> {
-    let mut dirty = Dirty::new(alloc, 1)?;
-    dirty.mark(TextId(0));
-    cache.forget(&dirty);
-    Ok(cache.kept() == 0 && cache.get(TextId(0)).is_none())
+// No texts, and no blocks: an expansion of no entries is kept all the same.
+fn smallest(alloc: Global) -> Result<bool, AllocError> {
+    let mut none = Cache::new(alloc, 0, 256)?;
+    forget_text(alloc, &mut none, TextId(0))?;
+    let nothing = none.get(TextId(0)).is_none() && none.kept() == 0 && none.free_blocks() == 1;
+    let mut cache = Cache::new(alloc, 2, 255)?;
+    step(alloc, &mut cache, 0, 1)?;
+    step(alloc, &mut cache, 1, 0)?;
+    Ok(nothing && cache.kept() == 1 && cache.free_blocks() == 0 && cache.get(TextId(0)).is_none())
 }
 
 #[test]
-fn forgotten_and_no_texts(rt: HostRuntime) -> Result<(), AllocError> {
-    let alloc = rt.alloc();
-    let mut cache = Cache::new(alloc, 2, 512)?;
-    let given = expansion(alloc, 300)?;
-    assert!(rt; cache.keep(TextId(0), given).is_ok());
-    assert!(rt; cache.free_blocks() == 0);
-    assert!(rt; forgets(alloc, &mut cache)?);
-    assert!(rt; cache.free_blocks() == 2);
-    let mut none = Cache::new(alloc, 0, 512)?;
-    assert!(rt; none.get(TextId(0)).is_none() && forgets(alloc, &mut none)?);
-    Ok(())
+fn keeps_in_the_smallest(rt: HostRuntime) {
+    assert!(rt; smallest(rt.alloc()) == Ok(true));
+}
+
+fn crosses_threads<T: Send + Sync>() {}
+
+// What workers are lent crosses threads.
+fn types_cross_threads() {
+    crosses_threads::<Cache>();
+    crosses_threads::<Kept>();
+    crosses_threads::<Dirty>();
+    crosses_threads::<Expansion>();
 }

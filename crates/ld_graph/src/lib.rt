@@ -1,4 +1,4 @@
-//! Which texts an edit changes.
+//! Which texts an edit changes: [`Dirty`] is a set of texts, with a mark for each number.
 #![tactic(auto)]
 
 mod dirty;
