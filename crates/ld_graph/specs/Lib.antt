@@ -1,1 +1,2 @@
 pub mod Dirt
+pub mod Reading
