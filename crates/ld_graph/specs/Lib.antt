@@ -1,1 +1,6 @@
 pub mod Dirt
+pub mod Web
+pub mod Items
+pub mod Changing
+pub mod Laws
+pub mod Seen
