@@ -1,11 +1,14 @@
-//! Which texts an edit changes: [`Dirty`] is a set of texts, with a mark for each number. A
-//! [`Reader`] reads texts and counts the lines that it answers.
+//! The graph of references over known texts, by their numbers: how high each text stands, and which texts a
+//! change alters. [`Dirty`] is a set of texts, with a mark for each number. A [`Reader`] reads
+//! texts and counts the lines that it answers.
 #![tactic(auto)]
 
 mod dirty;
+mod laws;
 mod reader;
 #[cfg(test)]
 mod tests;
 
 pub use dirty::Dirty;
+pub use laws::{dirt_law, height_law, rise_law};
 pub use reader::Reader;

@@ -1,0 +1,5 @@
+pub mod Listed
+pub mod Heights
+pub mod FoundBy
+pub mod Dirt
+pub mod More
