@@ -1,5 +1,6 @@
 pub mod Dirt
 pub mod Reading
+pub mod Resolving
 pub mod Web
 pub mod Items
 pub mod Changing

@@ -6,9 +6,11 @@
 mod dirty;
 mod laws;
 mod reader;
+mod resolving;
 #[cfg(test)]
 mod tests;
 
 pub use dirty::Dirty;
 pub use laws::{dirt_law, height_law, rise_law};
 pub use reader::Reader;
+pub use resolving::{Resolved, resolve};
