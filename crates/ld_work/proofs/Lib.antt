@@ -1,0 +1,9 @@
+pub mod Counted
+pub mod Expanded
+pub mod Gathered
+pub mod Numbered
+pub mod Parsing
+pub mod Passed
+pub mod Rooted
+pub mod Taken
+pub mod Texts

@@ -1,0 +1,5 @@
+pub mod Bounds
+pub mod Graphs
+pub mod Inside
+pub mod Reads
+pub mod Right

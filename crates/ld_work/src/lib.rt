@@ -1,0 +1,21 @@
+//! The expansion of texts over what is kept of others.
+//!
+//! [`expand_text`] gives a text's expansion by itself, taking the kept expansion of each low text that
+//! it refers to; [`expand_within`] gives it up where it has more entries than there is room for. Lines
+//! are read through a `Reader`, which counts them.
+#![tactic(auto)]
+
+mod bounds;
+mod carrying;
+mod cursor;
+mod expanding;
+mod graph;
+mod line;
+mod parsed;
+mod seen;
+mod taking;
+mod text;
+
+pub use bounds::Bounds;
+pub use graph::Graph;
+pub use text::expand_text;
