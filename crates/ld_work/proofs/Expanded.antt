@@ -1,5 +1,6 @@
 -- The steps of an expansion.
-use Rattle.std.proofs.Common.{◌≡◌, true, false, cond, ℕ, suc, List, [], ◌∷◌, ◌++◌, length, map, drop, Option, Some, None, Ok, Err, refl, ap, ◌∙◌, append_assoc}
+use Rattle.std.proofs.Common.{◌≡◌, ◌-◌, true, false, cond, ℕ, suc, List, [], ◌∷◌, ◌++◌, length, map, take, drop, Option, Some, None, Ok, Err, refl, ap, ◌∙◌, append_assoc, arith}
+use Rattle.std.proofs.lemmas.List.{length-append}
 use Rattle.std.proofs.Math.Seq.{take-append_seam}
 use Rattle.ld_names.specs.declared.file.TextId.{TextId}
 use Rattle.ld_num.specs.declared.point.Placement.{Placement}
@@ -65,3 +66,10 @@ extends-carried above base sub new (Some fault) some =
 
 pub extends-on : (old mid new : List Entry) → Extends old mid → Extends mid new → Extends old new
 extends-on old mid new first second = (first.0 ++ second.0, second.1 ∙ ap (λ es. es ++ second.0) first.1 ∙ append_assoc old first.0 second.0)
+
+-- the way without its last text
+pub popped : (items way : List TextId) (text : TextId) → items ≡ way ++ text ∷ [] → take (length items - 1) items ≡ way
+popped items way text is =
+    let long : length (way ++ text ∷ []) ≡ suc (length way) = length-append way (text ∷ []) ∙ omega arith in
+    let before : length (way ++ text ∷ []) - 1 ≡ length way = omega arith in
+    ap (λ xs. take (length xs - 1) xs) is ∙ ap (λ n. take n (way ++ text ∷ [])) before ∙ take-append_seam way (text ∷ [])

@@ -5,5 +5,6 @@ pub mod Numbered
 pub mod Parsing
 pub mod Passed
 pub mod Rooted
+pub mod Steps
 pub mod Taken
 pub mod Texts

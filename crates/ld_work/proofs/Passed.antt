@@ -9,11 +9,11 @@ use Rattle.ld_entry.specs.NumberedTexts.{NumberedTexts}
 use Rattle.ld_entry.specs.Outcomes.{all, all_by_line, concatenation}
 use Rattle.ld_entry.specs.declared.entry.Entry.{Entry}
 use Rattle.ld_entry.specs.declared.entry.Fault.{Fault}
-use Rattle.ld_work.specs.Inside.Gathering.{alone, enter_with, Gathers}
+use Rattle.ld_work.specs.Inside.Gathering.{alone, enter_with, gathered, Gathers}
 use Rattle.ld_work.specs.Inside.Parsing.{parsed_lines, parsed_outcomes}
 use Rattle.ld_work.specs.declared.line.ParsedLine.{ParsedLine}
 use Rattle.ld_work.proofs.Gathered.{ended-gathered, full-gathered, then-gathered}
-use Rattle.ld_work.proofs.Parsing.{at-place, get-map, past-end, take-next, text-gives}
+use Rattle.ld_work.proofs.Parsing.{at-place, get-map, none-taken, past-end, take-next, text-gives}
 
 joined : {A : Type 0} (xs ys : List (List A)) → concatenation (xs ++ ys) ≡ concatenation xs ++ concatenation ys
 joined [] ys = refl
@@ -29,6 +29,9 @@ module _ (texts : NumberedTexts) (left : ℕ) (way : List TextId) (text : TextId
 
   abbrev pub gives : ParsedLine → List Outcome
   gives line = parsed_outcomes (enter_with left) texts way line
+
+  pub begun : (most : ℕ) (old : List Entry) → Gathers most old old None (gave 0)
+  begun most old behind = ap (λ os. gathered most old None (os ++ behind)) (sym (ap concatenation (none-taken by_line)))
 
 module _ (carry : CarryLaws) (texts : NumberedTexts) (left : ℕ) (way : List TextId) (text : TextId) where
   abbrev all_lines : List (List Outcome)

@@ -113,11 +113,11 @@ impl Expander<'_> {
     }
 
     // What is kept of a file, if it may stand for the file at the end of a way of so many files.
-    fn given(&self, above: u32, file: TextId) -> Option<Kept<'_>>
+    fn given(&self, above: usize, file: TextId) -> Option<Kept<'_>>
         requires { above ≤ self.now.bounds.depth }
         ensures { result ≡ (if nat_le (above + height_in self.now.graph.now file) self.now.bounds.depth then kept_of self.now.cache.now file else None) }
     {
-        if self.graph.height(file) > self.bounds.depth - above {
+        if self.graph.height(file) as usize > self.bounds.depth as usize - above {
             return None;
         }
         self.cache.get(file)
@@ -180,8 +180,7 @@ impl Expander<'_> {
         let _ = NO_LINES;
         cut_laws();
         reuse_law();
-        let above = work.way.len() as u32;
-        if let Some(kept) = self.given(above, file) {
+        if let Some(kept) = self.given(work.way.len(), file) {
             let end = take(&kept, self.most, &mut work.entries)?;
             return Ok(end);
         }
