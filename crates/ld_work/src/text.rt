@@ -12,14 +12,13 @@ use crate::bounds::Bounds;
 use crate::cursor::Cursor;
 use crate::expanding::{Expander, Work};
 use crate::graph::Graph;
-use crate::line::{NO_ENTRIES, NO_POINTS};
+use crate::line::NO_LINES;
 use crate::parsed::ParsedTexts;
 use crate::seen::line_count;
 use ld_cache::Cache;
-use ld_entry::{Entry, Expansion, Fault, carry_laws, cut_laws, walk_laws};
+use ld_entry::{Expansion, Fault, carry_laws, cut_laws, walk_laws};
 use ld_graph::Reader;
 use ld_names::{List as Items, TextId};
-use ld_num::Point;
 use smallvec::SmallVec;
 use std::alloc::{AllocError, Global};
 
@@ -60,8 +59,7 @@ impl Expander<'_> {
         ensures exactly { IfOk result (λ given. given ≡ neutral_expansion (texts_of reader.old) self.now.bounds.depth self.now.most [] text) }
         ensures reads { ReadsAtMost reader.old reader.new (reads (basis_of self.now reader.old) [] text) }
     {
-        let _: [Point; 0] = NO_POINTS;
-        let _: [Entry; 0] = NO_ENTRIES;
+        let _ = NO_LINES;
         cut_laws();
         walk_laws();
         carry_laws();
