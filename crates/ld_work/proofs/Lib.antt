@@ -1,3 +1,4 @@
+pub mod Computed
 pub mod Counted
 pub mod Expanded
 pub mod Gathered
@@ -8,3 +9,4 @@ pub mod Rooted
 pub mod Steps
 pub mod Taken
 pub mod Texts
+pub mod Within

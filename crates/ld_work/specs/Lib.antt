@@ -1,5 +1,7 @@
 pub mod Bounds
+pub mod Fitting
 pub mod Graphs
 pub mod Inside
 pub mod Reads
+pub mod ReadsRows
 pub mod Right

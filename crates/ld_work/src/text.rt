@@ -3,6 +3,7 @@ ghost use Rattle.std.specs.Prelude.{◌≡◌, ◌≤◌, ◌<◌, ◌+◌, ◌-
 ghost use Rattle.ld_entry.specs.Expansion.{neutral_expansion};
 ghost use Rattle.ld_entry.specs.NumberedTexts.{known_texts};
 ghost use Rattle.ld_work.specs.Bounds.{AreBounds};
+ghost use Rattle.ld_work.specs.Fitting.{FitsIn};
 ghost use Rattle.ld_work.specs.Graphs.{AgreesWith};
 ghost use Rattle.ld_work.specs.Inside.Working.{IsReady, ReadsAtMost, basis_of, texts_of};
 ghost use Rattle.ld_work.specs.Reads.{reads};
@@ -110,4 +111,42 @@ pub fn expand_text(
         most: bounds.entries,
     };
     expander.expand(reader, id)
+}
+
+/// Bounds, and how many entries there is room for.
+#[derive(Clone, Copy, Debug, PartialEq, Eq)]
+pub struct Room {
+    pub bounds: Bounds,
+    pub entries: u32,
+}
+
+/// The expansion of a text by itself, where it has no more entries than there is room for. It is given
+/// up as soon as one more stands.
+pub fn expand_within(
+    alloc: Global,
+    reader: &mut Reader<'_>,
+    graph: &Graph,
+    cache: &Cache,
+    id: TextId,
+    room: Room,
+) -> Result<Option<Expansion>, AllocError>
+    requires bounds { AreBounds room.bounds }
+    requires graph { AgreesWith graph.now room.bounds.depth (known_texts reader.old.texts.known) }
+    requires kept { AreRight (known_texts reader.old.texts.known) room.bounds cache.now }
+    ensures fits { IfOk result (FitsIn room.entries (neutral_expansion (known_texts reader.old.texts.known) room.bounds.depth room.bounds.entries [] id)) }
+    ensures texts { reader.new.texts ≡ reader.old.texts }
+    ensures reads { reader.new.reads ≤ reader.old.reads + reads (record { texts = known_texts reader.old.texts.known; bounds = room.bounds; cache = cache.now }) [] id }
+{
+    let expander = Expander {
+        alloc,
+        graph,
+        cache,
+        bounds: room.bounds,
+        most: room.bounds.entries.min(room.entries),
+    };
+    let expansion = expander.expand(reader, id)?;
+    if expansion.entries.as_slice().len() > room.entries as usize {
+        return Ok(None);
+    }
+    Ok(Some(expansion))
 }
