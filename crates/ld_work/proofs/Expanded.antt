@@ -4,13 +4,11 @@ use Rattle.std.proofs.lemmas.List.{length-append}
 use Rattle.std.proofs.Math.Seq.{take-append_seam}
 use Rattle.ld_names.specs.declared.file.TextId.{TextId}
 use Rattle.ld_num.specs.declared.point.Placement.{Placement}
-use Rattle.ld_line.specs.declared.line.Line.{Line}
-use Rattle.ld_line.specs.declared.line.Line.TheVariants.{Draw, Ref}
 use Rattle.ld_bfc.specs.declared.culling.State.{State}
 use Rattle.ld_entry.specs.Carrying.{Above, above_of, Outcome, beneath, carried_outcome, fault_at, nothing_above}
 use Rattle.ld_entry.specs.Laws.{ActionLaw, CarryLaws}
 use Rattle.ld_entry.specs.NumberedTexts.{NumberedTexts}
-use Rattle.ld_entry.specs.Outcomes.{Context, Enter, all, is_on_way, line_outcomes, own_entry, part_outcomes, outer_of, found_outcomes}
+use Rattle.ld_entry.specs.Outcomes.{Context, all, is_on_way, part_outcomes, outer_of, found_outcomes}
 use Rattle.ld_entry.specs.declared.entry.Entry.{Entry}
 use Rattle.ld_entry.specs.declared.entry.Fault.{Fault}
 use Rattle.ld_entry.specs.declared.entry.Source.{Source}

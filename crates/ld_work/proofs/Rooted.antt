@@ -1,5 +1,5 @@
 -- The expansion of a text by itself, line by line.
-use Rattle.std.proofs.Common.{◌≡◌, ◌≤◌, ◌<◌, ◌+◌, ◌-◌, ◌⊎◌, inl, inr, true, false, ℕ, zero, suc, List, [], ◌∷◌, ◌++◌, length, map, take, drop, replicate, Option, Some, None, Ok, Err, refl, ap, sym, subst, ◌∙◌, append_assoc, arith}
+use Rattle.std.proofs.Common.{◌≡◌, ◌≤◌, ◌<◌, ◌+◌, ◌-◌, ◌⊎◌, inl, inr, true, false, ℕ, zero, suc, List, [], ◌∷◌, ◌++◌, length, map, drop, replicate, Option, Some, None, Ok, refl, ap, sym, ◌∙◌, append_assoc, arith}
 use Rattle.std.specs.Prelude.{is_some, slice_get}
 use Rattle.std.proofs.lemmas.List.{append-nil, length-append, length-drop, length-map}
 use Rattle.ld_names.specs.declared.file.TextId.{TextId}
@@ -8,11 +8,10 @@ use Rattle.ld_entry.specs.Carrying.{Outcome}
 use Rattle.ld_entry.specs.Expansion.{end_of, ends_behind, first_entries, neutral_expansion}
 use Rattle.ld_entry.specs.Laws.{CarryLaws, CutLaws}
 use Rattle.ld_entry.specs.NumberedTexts.{NumberedTexts}
-use Rattle.ld_entry.specs.Outcomes.{all, concatenation}
+use Rattle.ld_entry.specs.Outcomes.{concatenation}
 use Rattle.ld_entry.specs.declared.entry.Entry.{Entry}
-use Rattle.ld_entry.specs.declared.entry.Expansion.{Expansion}
 use Rattle.ld_entry.specs.declared.entry.Fault.{Fault}
-use Rattle.ld_work.specs.Inside.Gathering.{alone, gathered, Gathers, IsWithin, shown}
+use Rattle.ld_work.specs.Inside.Gathering.{gathered, Gathers, IsWithin, shown}
 use Rattle.ld_work.specs.Inside.Parsing.{parsed_lines}
 use Rattle.ld_work.specs.declared.line.ParsedLine.{ParsedLine}
 use Rattle.ld_work.proofs.Gathered.{faulted, full}

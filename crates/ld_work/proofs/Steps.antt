@@ -1,5 +1,5 @@
 -- The steps over the lines of a text, by readers of the same texts.
-use Rattle.std.proofs.Common.{◌≡◌, ◌≤◌, ◌<◌, ◌+◌, ◌-◌, ◌++◌, cond, false, min, ℕ, zero, suc, List, [], ◌∷◌, length, take, Option, Some, None, refl, ap, sym, subst, ◌∙◌, arith}
+use Rattle.std.proofs.Common.{◌≡◌, ◌≤◌, ◌+◌, ◌-◌, ◌++◌, cond, false, min, ℕ, suc, List, [], ◌∷◌, length, Option, Some, None, refl, ap, sym, subst, ◌∙◌, arith}
 use Rattle.std.specs.Prelude.{slice_get, ◌==◌}
 use Rattle.std.specs.List.{list_any}
 use Rattle.ld_names.specs.declared.file.TextId.{TextId}
@@ -10,14 +10,14 @@ use Rattle.ld_entry.specs.Laws.{CarryLaws}
 use Rattle.ld_entry.specs.NumberedTexts.{known_texts}
 use Rattle.ld_entry.specs.declared.entry.Entry.{Entry}
 use Rattle.ld_entry.specs.declared.entry.Fault.{Fault}
-use Rattle.ld_work.specs.Inside.Gathering.{enter_with, gathered, Gathers}
+use Rattle.ld_work.specs.Inside.Gathering.{enter_with, Gathers}
 use Rattle.ld_work.specs.Inside.Parsing.{parsed_lines, parsed_outcomes, reads_parsed}
 use Rattle.ld_work.specs.Inside.Working.{basis_of, below_with, Gives, IsLineOf, IsReady, MayPass, ReadsAtMost, texts_of}
 use Rattle.ld_work.specs.Reads.{Basis, is_given, reads_entered, reads_within}
 use Rattle.ld_work.specs.declared.expanding.Expander.{Expander}
 use Rattle.ld_work.specs.declared.expanding.Work.{Work}
 use Rattle.ld_work.specs.declared.line.ParsedLine.{ParsedLine}
-use Rattle.ld_work.proofs.Counted.{entered-reads, IsCounted, not-ended, read-begun, to_read, to_read-next, to_read-one}
+use Rattle.ld_work.proofs.Counted.{entered-reads, IsCounted, not-ended, read-begun, to_read-next, to_read-one}
 use Rattle.ld_work.proofs.Passed.{gave}
 
 -- ---- Readers of the same texts.

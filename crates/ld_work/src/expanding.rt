@@ -25,7 +25,9 @@ use crate::taking::take;
 use ld_bfc::below_of;
 use ld_cache::{Cache, Kept};
 use ld_colour::colour_of;
-use ld_entry::{Entry, Fault, Outer, Source, What, action_law, carry_laws, cut_laws, reuse_law, walk_laws};
+use ld_entry::{
+    Entry, Fault, Outer, Source, What, action_law, carry_laws, cut_laws, reuse_law, walk_laws,
+};
 use ld_graph::Reader;
 use ld_names::TextId;
 use ld_num::mirrored;

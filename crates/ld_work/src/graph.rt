@@ -23,9 +23,6 @@ impl Graph {
     pub fn target(&self, text: TextId) -> TextId
         ensures { result ≡ get_or self.now.targets.items text.0 text }
     {
-        self.targets
-            .get(text.0 as usize)
-            .copied()
-            .unwrap_or(text)
+        self.targets.get(text.0 as usize).copied().unwrap_or(text)
     }
 }

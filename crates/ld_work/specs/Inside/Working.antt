@@ -14,7 +14,6 @@ use Rattle.ld_work.specs.Reads.{Basis, Below, reads_within}
 use Rattle.ld_work.specs.Right.{AreRight}
 use Rattle.ld_work.specs.declared.expanding.Expander.{Expander}
 use Rattle.ld_work.specs.declared.expanding.Work.{Work}
-use Rattle.ld_work.specs.declared.line.Finding.{Finding}
 use Rattle.ld_work.specs.declared.line.Finding.TheVariants.{File}
 use Rattle.ld_work.specs.declared.line.ParsedLine.{ParsedLine}
 use Rattle.ld_work.specs.declared.line.Reference.{Reference}

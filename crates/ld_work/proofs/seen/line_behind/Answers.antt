@@ -1,4 +1,4 @@
-use Rattle.std.proofs.Common.{◌-◌, ap, length, min, sym, subst, ◌∙◌, option_map}
+use Rattle.std.proofs.Common.{◌-◌, ap, min, sym, subst, ◌∙◌, option_map}
 use Rattle.ld_line.specs.Reading.{line_of}
 use Rattle.ld_work.specs.Inside.Working.{ReadsAtMost}
 use Rattle.ld_work.proofs.Numbered.{line-seen, lines-count}

@@ -1,6 +1,6 @@
-use Rattle.std.proofs.Common.{◌≡◌, ◌≤◌, ◌<◌, ◌++◌, length, take, drop, arith, ap, ◌∙◌}
-use Rattle.std.proofs.lemmas.List.{take-append-drop, take_all}
-use Rattle.ld_work.proofs.Gathered.{all-taken, some-taken}
+use Rattle.std.proofs.Common.{◌<◌, length, take, drop, arith}
+use Rattle.std.proofs.lemmas.List.{take-append-drop}
+use Rattle.ld_work.proofs.Gathered.{some-taken}
 use Rattle.ld_work.proofs.taking.take.Goals as goal
 
 pub returns-then-len-most-clause-gathers : goal.returns-then-len-most-clause-gathers

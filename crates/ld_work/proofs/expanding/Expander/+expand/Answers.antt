@@ -1,10 +1,9 @@
-use Rattle.std.proofs.Common.{◌≡◌, ◌≤◌, ◌<◌, ◌+◌, ◌-◌, ◌==◌, ◌++◌, [], ◌∷◌, cond, false, suc, length, map, min, Some, None, refl, ap, sym, subst, ◌∙◌, arith}
+use Rattle.std.proofs.Common.{◌≡◌, ◌≤◌, ◌<◌, ◌+◌, ◌-◌, ◌==◌, ◌++◌, [], ◌∷◌, false, suc, length, map, Some, None, refl, ap, sym, subst, ◌∙◌, arith}
 use Rattle.std.specs.Prelude.{nat_le, slice_get}
 use Rattle.std.specs.List.{list_any}
 use Rattle.std.specs.Option.{option_or}
 use Rattle.std.proofs.lemmas.Bool.{leb-true}
 use Rattle.std.proofs.lemmas.List.{append-nil, length-append}
-use Rattle.std.proofs.lemmas.Option.{slice_get_within}
 use Rattle.ld_entry.specs.Answers.{left_below}
 use Rattle.ld_entry.specs.Carrying.{above_of, carried_outcome}
 use Rattle.ld_entry.specs.Heights.{IsLow, IsWalk}
@@ -13,8 +12,8 @@ use Rattle.ld_entry.specs.declared.entry.Source.{Source}
 use Rattle.ld_cache.specs.Kept.{kept_of}
 use Rattle.ld_work.specs.Graphs.{height_in}
 use Rattle.ld_work.specs.Inside.Gathering.{alone, CarriesFrom, enter_with, Gathers, IsWithin}
-use Rattle.ld_work.specs.Inside.Parsing.{AreParsed, IsParsedText, parsed_lines}
-use Rattle.ld_work.specs.Inside.Working.{basis_of, Gives, left_at, MayPass, texts_of}
+use Rattle.ld_work.specs.Inside.Parsing.{parsed_lines}
+use Rattle.ld_work.specs.Inside.Working.{basis_of, left_at, MayPass, texts_of}
 use Rattle.ld_work.proofs.Expanded.{entered-gives, extends-carried, extends-on, popped}
 use Rattle.ld_work.proofs.Gathered.{carried-gathered, carried-within, full-gathered, then-gathered}
 use Rattle.ld_work.proofs.Parsing.{is-line}

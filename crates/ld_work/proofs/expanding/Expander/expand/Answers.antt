@@ -1,11 +1,11 @@
-use Rattle.std.proofs.Common.{◌≡◌, ◌≤◌, ◌<◌, ◌+◌, ◌-◌, ◌++◌, inl, inr, ℕ, List, [], ◌∷◌, length, replicate, suc, None, Some, refl, ap, sym, subst, ◌∙◌, arith}
+use Rattle.std.proofs.Common.{◌≡◌, ◌≤◌, ◌-◌, ◌++◌, inl, inr, ℕ, List, [], ◌∷◌, length, replicate, suc, None, Some, refl, ap, sym, subst, ◌∙◌, arith}
 use Rattle.std.specs.Prelude.{slice_get}
 use Rattle.ld_entry.specs.Answers.{left_below}
 use Rattle.ld_entry.specs.Heights.{IsWalk}
 use Rattle.ld_work.specs.Inside.Parsing.{IsAt, parsed_lines}
 use Rattle.ld_work.specs.Inside.Working.{basis_of, MayPass, texts_of}
 use Rattle.ld_work.proofs.Parsing.{is-line}
-use Rattle.ld_work.proofs.Rooted.{IsRooted, no-end, root-begun, root-done, root-passed, root-stopped, Stops}
+use Rattle.ld_work.proofs.Rooted.{no-end, root-begun, root-done, root-passed, root-stopped, Stops}
 use Rattle.ld_work.proofs.Steps.{asked-same, counted-begun, gives-same, line-asked, line-counted, line-read, line-same, line-there, may-same, read-same}
 use Rattle.ld_work.proofs.expanding.Expander.expand.Goals as goal
 use Rattle.ld_work.proofs.expanding.Expander.expand.Goals.{then-is_some-via-else-is_some+then-count-self, then-is_some-via-then-is_some}

@@ -1,8 +1,8 @@
-use Rattle.std.proofs.Common.{◌≡◌, ◌<◌, ◌+◌, ◌++◌, [], ◌∷◌, length, Some, ap, sym, subst, ◌∙◌, arith}
+use Rattle.std.proofs.Common.{◌≡◌, ◌+◌, Some, sym, ◌∙◌}
 use Rattle.std.specs.Prelude.{slice_get}
-use Rattle.ld_work.specs.Inside.Parsing.{IsAt, IsParsedText, parsed_lines}
+use Rattle.ld_work.specs.Inside.Parsing.{parsed_lines}
 use Rattle.ld_work.specs.Inside.Working.{texts_of}
-use Rattle.ld_work.proofs.Texts.{parsed-count, parsed-more, parsed-there}
+use Rattle.ld_work.proofs.Texts.{parsed-more}
 use Rattle.ld_work.proofs.parsed.ParsedText.line.Goals as goal
 
 pub returns-clause-parsed : goal.returns-clause-parsed
