@@ -1,5 +1,6 @@
 -- Laws of recursive expansion.
-use Rattle.std.specs.Prelude.{◌≡◌, ◌≤◌, ◌<◌, ◌+◌, ◌++◌, ◌⊎◌, ℕ, suc, Bool, true, All, List, [], ◌∷◌, map, min, length, sum, take, slice_get, Option, Some, None, Ok, Err, IfOk}
+use Rattle.std.specs.Prelude.{◌≡◌, ◌≤◌, ◌<◌, ◌+◌, ◌==◌, ◌++◌, ◌⊎◌, ℕ, suc, Bool, true, false, All, List, [], ◌∷◌, map, min, length, sum, take, slice_get, Option, Some, None, Ok, Err, IfOk}
+use Rattle.std.specs.List.{list_any}
 use Rattle.ld_names.specs.Finding.{IsThere}
 use Rattle.ld_names.specs.Standing.{Known, Map, Text}
 use Rattle.ld_names.specs.declared.file.FileId.{FileId}
@@ -17,7 +18,7 @@ use Rattle.ld_colour.specs.declared.colour.Colour.{Colour}
 use Rattle.ld_colour.specs.declared.colour.Colour.TheVariants.{Code}
 use Rattle.ld_entry.specs.Agreement.{Agree, AgreeAs, MapsAgree, renamed_above, renamed_answer, renamed_outcome}
 use Rattle.ld_entry.specs.Answers.{answer, answer_by, answer_of, until_end, entries_before, first_fault, left_below, outcome_counts, running_sums}
-use Rattle.ld_entry.specs.Carrying.{Above, above_of, beneath, carried_entry, carried_outcome, nothing_above, Outcome}
+use Rattle.ld_entry.specs.Carrying.{Above, above_of, beneath, carried_entry, carried_outcome, fault_at, nothing_above, Outcome}
 use Rattle.ld_entry.specs.Expansion.{end_of, expansion_of, first_entries, neutral_expansion}
 use Rattle.ld_entry.specs.Heights.{found_by, height, IsLow, IsWalk, LeadsBy, Refers, tallest}
 use Rattle.ld_entry.specs.Lawful.{IsLawfulEntry, IsLawfulOutcome}
@@ -30,6 +31,7 @@ use Rattle.ld_entry.specs.declared.entry.Expansion.{Expansion}
 use Rattle.ld_entry.specs.declared.entry.Fault.{Fault}
 use Rattle.ld_entry.specs.declared.entry.Outer.{Outer}
 use Rattle.ld_entry.specs.declared.entry.Source.{Source}
+use Rattle.ld_entry.specs.declared.entry.What.TheVariants.{Cycle, TooDeep}
 
 -- ---- What stands above composes, and so does what becomes of entries below it.
 
@@ -145,15 +147,40 @@ LineEndsLaw =
 abbrev pub ReachedLaw : Type 0
 ReachedLaw = (known : Known) (root : FileId) (id : ℕ) → AreDistinct known → id_of known root ≡ Some id → wanted known root ≡ None → IsLearnt known root id
 
--- Among known texts, references lead to the part at which moves end.
+-- Among known texts, fewer than 64 references lead to the part at which moves end.
 abbrev pub TargetLaw : Type 0
-TargetLaw = (known : Known) (text : TextId) → AreDistinct known → (rest : List TextId) × LeadsBy (known_texts known) rest text ((known_texts known).target text)
+TargetLaw = (known : Known) (text : TextId) → AreDistinct known → (rest : List TextId) × LeadsBy (known_texts known) rest text ((known_texts known).target text) × (length rest < 64)
 
 -- Where nothing is wanted, the known texts give what the texts as they stand give, whatever the shelf has.
 pub record StandingLaw : Type 0 where
   pub outcomes : (inside : TextId → Bool) (known : Known) (shelf : FileId → Text) → IsClosed inside known → (left : ℕ) (way : List TextId) (text : TextId) (above : Above) → inside text ≡ true → all_by_line left (context_of (standing_texts known shelf) way text above) ≡ all_by_line left (context_of (known_texts known) way text above)
   pub answers : (inside : TextId → Bool) (known : Known) (shelf : FileId → Text) → IsClosed inside known → (depth most : ℕ) (root : TextId) (colour : Colour) → inside root ≡ true → answer (standing_texts known shelf) depth most root colour ≡ answer (known_texts known) depth most root colour
   pub expansions : (inside : TextId → Bool) (known : Known) (shelf : FileId → Text) → IsClosed inside known → (depth most : ℕ) (way : List TextId) (text : TextId) → inside text ≡ true → neutral_expansion (standing_texts known shelf) depth most way text ≡ neutral_expansion (known_texts known) depth most way text
+
+-- ---- The way and the depth.
+
+-- the source of what a line gives, by the place of the line
+abbrev pub line_source : TextId → ℕ → Source
+line_source text index = record { text = text; line = index + 1 }
+
+-- the state of back face culling before a line, by the place of the line
+abbrev pub state_at : NumberedTexts → TextId → ℕ → State
+state_at texts text index = state_before (texts.is_part text) (texts.lines text) (index + 1)
+
+-- the line is a reference whose name finds the file
+pub record IsReference (texts : NumberedTexts) (text : TextId) (index word : ℕ) (placement : Placement) (file : TextId) : Type 0 where
+  pub name : List ℕ
+  pub line : slice_get (texts.lines text) index ≡ Some (Ref word placement (Some name))
+  pub finds : texts.found text name ≡ Some file
+
+-- What a reference to a file that is there gives, where a way may have so many files:
+pub record DepthLaw : Type 0 where
+  -- while the way with the text has fewer, it enters the file, under the way with the text
+  pub enters : (texts : NumberedTexts) (depth : ℕ) (way : List TextId) (text : TextId) (above : Above) (index word : ℕ) (placement : Placement) (file : TextId) → IsReference texts text index word placement file → list_any (λ other. other.0 == file.0) (way ++ text ∷ []) ≡ false → length (way ++ text ∷ []) < depth → slice_get (all_by_line (left_below depth way) (context_of texts way text above)) index ≡ Some (part_outcomes (context_of texts way text above) (line_source text index) word file ++ all (left_below depth (way ++ text ∷ [])) (context_of texts (way ++ text ∷ []) file (beneath above (above_of (outer_of (state_at texts text index) (line_source text index) word placement)))))
+  -- where it has as many, it is too deep
+  pub too_deep : (texts : NumberedTexts) (depth : ℕ) (way : List TextId) (text : TextId) (above : Above) (index word : ℕ) (placement : Placement) (file : TextId) → IsReference texts text index word placement file → list_any (λ other. other.0 == file.0) (way ++ text ∷ []) ≡ false → depth ≤ length (way ++ text ∷ []) → slice_get (all_by_line (left_below depth way) (context_of texts way text above)) index ≡ Some (fault_at TooDeep (line_source text index) ∷ [])
+  -- and where the file is on the way, the text itself with it, it is a cycle
+  pub cycle : (texts : NumberedTexts) (depth : ℕ) (way : List TextId) (text : TextId) (above : Above) (index word : ℕ) (placement : Placement) (file : TextId) → IsReference texts text index word placement file → list_any (λ other. other.0 == file.0) (way ++ text ∷ []) ≡ true → slice_get (all_by_line (left_below depth way) (context_of texts way text above)) index ≡ Some (fault_at Cycle (line_source text index) ∷ [])
 
 -- ---- Heights and ways.
 

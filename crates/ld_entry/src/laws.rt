@@ -1,4 +1,4 @@
-ghost use Rattle.ld_entry.specs.Laws.{ActionLaw, AgreementLaw, CarryLaws, CountLaw, CutLaws, EndsLaws, FoundLaw, HeightLaws, LawfulLaw, LineEndsLaw, LineLaws, LinkLaw, LowerLaw, MapsLaw, ReachedLaw, RenamingLaw, ReuseLaw, StandingLaw, TargetLaw, TintLaw, WalkLaws, WayLaw};
+ghost use Rattle.ld_entry.specs.Laws.{ActionLaw, AgreementLaw, CarryLaws, CountLaw, CutLaws, DepthLaw, EndsLaws, FoundLaw, HeightLaws, LawfulLaw, LineEndsLaw, LineLaws, LinkLaw, LowerLaw, MapsLaw, ReachedLaw, RenamingLaw, ReuseLaw, StandingLaw, TargetLaw, TintLaw, WalkLaws, WayLaw};
 
 use ld_bfc::{state_laws, with_laws};
 use ld_colour::{lawful_colours, under_laws};
@@ -79,7 +79,7 @@ pub fn reached_law()
     number_law();
 }
 
-/// Among known texts, references lead to the part at which moves end.
+/// Among known texts, fewer than 64 references lead to the part at which moves end.
 pub fn target_law()
     ensures { TargetLaw }
 {
@@ -94,6 +94,14 @@ pub fn standing_law()
 {
     lookup_law();
     file_laws();
+}
+
+/// A reference enters a file while the way, with the text itself, has fewer files than the depth. It
+/// is too deep where the way has as many, and a cycle where the file is on the way.
+pub fn depth_law()
+    ensures { DepthLaw }
+{
+    state_laws();
 }
 
 /// What a line's name finds its text refers to, and a walk that ends at a text goes on to that.
