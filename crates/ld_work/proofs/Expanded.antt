@@ -1,5 +1,5 @@
 -- The steps of an expansion.
-use Rattle.std.proofs.Common.{◌≡◌, ◌-◌, true, false, cond, ℕ, suc, List, [], ◌∷◌, ◌++◌, length, map, take, drop, Option, Some, None, Ok, Err, refl, ap, ◌∙◌, append_assoc, arith}
+use Rattle.std.proofs.Common.{◌≡◌, ◌-◌, false, cond, ℕ, suc, List, [], ◌∷◌, ◌++◌, length, map, take, drop, Option, Some, None, Ok, Err, refl, ap, ◌∙◌, append_assoc, arith}
 use Rattle.std.proofs.lemmas.List.{length-append}
 use Rattle.std.proofs.Math.Seq.{take-append_seam}
 use Rattle.ld_names.specs.declared.file.TextId.{TextId}
@@ -12,7 +12,7 @@ use Rattle.ld_entry.specs.Outcomes.{Context, all, is_on_way, part_outcomes, oute
 use Rattle.ld_entry.specs.declared.entry.Entry.{Entry}
 use Rattle.ld_entry.specs.declared.entry.Fault.{Fault}
 use Rattle.ld_entry.specs.declared.entry.Source.{Source}
-use Rattle.ld_entry.specs.declared.entry.What.TheVariants.{Cycle, TooDeep}
+use Rattle.ld_entry.specs.declared.entry.What.TheVariants.{Cycle}
 use Rattle.ld_work.specs.Inside.Gathering.{CarriesFrom, Extends, alone, enter_with}
 
 -- ---- A reference.
@@ -23,13 +23,6 @@ module _ (texts : NumberedTexts) (way : List TextId) (left : ℕ) (state : State
 
   abbrev gives : List Outcome
   gives = found_outcomes (enter_with left) here state source word placement (Some file)
-
-  pub on_way-gives : is_on_way here file ≡ true → gives ≡ fault_at Cycle source ∷ []
-  on_way-gives on = rw on refl
-
-  pub too_deep-gives : is_on_way here file ≡ false → left ≡ 0 → gives ≡ fault_at TooDeep source ∷ []
-  too_deep-gives off none =
-      ap (λ n. found_outcomes (enter_with n) here state source word placement (Some file)) none ∙ rw off refl
 
   pub entered-gives : CarryLaws → ActionLaw → (further : ℕ) → is_on_way here file ≡ false → left ≡ suc further → gives ≡ part_outcomes here source word file ++ map (carried_outcome (above_of (outer_of state source word placement))) (all further (alone texts (way ++ source.text ∷ []) file))
   entered-gives carry action further off more =

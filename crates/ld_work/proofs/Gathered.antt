@@ -36,15 +36,6 @@ faulted most (Err x ∷ before) fault xs ys = refl
 faulted zero (Ok entry ∷ before) fault xs ys = refl
 faulted (suc most) (Ok entry ∷ before) fault xs ys = ap (λ zs. Ok entry ∷ zs) (faulted most before fault xs ys)
 
--- nothing is given
-pub nothing-gathered : (most : ℕ) (entries : List Entry) → Gathers most entries entries None []
-nothing-gathered most entries behind = refl
-
--- a fault is given
-pub fault-gathered : (most : ℕ) (entries : List Entry) (end : Option Fault) (fault : Fault) (outcomes : List Outcome) → end ≡ Some fault → outcomes ≡ Err fault ∷ [] → Gathers most entries entries end outcomes
-fault-gathered most entries end fault outcomes ends is behind =
-    ap (λ e. gathered most entries e behind) ends ∙ ap (λ os. until_end most (map Ok entries ++ (os ++ behind))) (sym is)
-
 -- one step after another
 pub then-gathered : (most : ℕ) (old mid new : List Entry) (end : Option Fault) (first second : List Outcome) → Gathers most old mid None first → Gathers most mid new end second → Gathers most old new end (first ++ second)
 then-gathered most old mid new end first second one two behind =
@@ -163,9 +154,6 @@ regroup [] own ends behind = sym (append_assoc (map Ok own) ends behind)
 regroup (entry ∷ old) own ends behind = ap (λ os. Ok entry ∷ os) (regroup old own ends behind)
 
 module _ (most : ℕ) (old own : List Entry) (end : Option Fault) where
-  pub all-taken : (new : List Entry) → new ≡ old ++ own → Gathers most old new end (shown own end)
-  all-taken new is behind = ap (λ es. gathered most es end behind) is ∙ ap (until_end most) (regroup old own (at_end end) behind)
-
   pub some-taken : (first rest new : List Entry) → first ++ rest ≡ own → new ≡ old ++ first → most < length new → Gathers most old new None (shown own end)
   some-taken first rest new parts is many behind =
       let all : new ++ rest ≡ old ++ own = ap (λ es. es ++ rest) is ∙ append_assoc old first rest ∙ ap (λ es. old ++ es) parts in

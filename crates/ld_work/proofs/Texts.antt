@@ -1,9 +1,8 @@
 -- Texts that are parsed.
-use Rattle.std.proofs.Common.{◌≡◌, ◌<◌, ◌+◌, ◌++◌, Bool, true, false, cond, ℕ, suc, [], ◌∷◌, length, take, Some, None, refl, ap, sym, subst, ◌∙◌, arith}
+use Rattle.std.proofs.Common.{◌≡◌, ◌+◌, ◌++◌, Bool, true, false, cond, ℕ, suc, [], ◌∷◌, take, Some, None, refl, ap, sym, subst, ◌∙◌, arith}
 use Rattle.std.specs.Prelude.{slice_get}
 use Rattle.std.specs.BTreeMap.{get, is_at}
 use Rattle.std.specs.Ordering.{nat_cmp}
-use Rattle.std.proofs.lemmas.List.{length-take}
 use Rattle.std.proofs.lemmas.Map.Lookups.{exact_unsigned}
 use Rattle.std.proofs.lemmas.Map.Views.{tells_apart}
 use Rattle.ld_entry.specs.NumberedTexts.{NumberedTexts}
@@ -11,21 +10,9 @@ use Rattle.ld_work.specs.Inside.Parsing.{AreParsed, IsAt, IsParsedText, parsed_l
 use Rattle.ld_work.specs.declared.line.ParsedLine.{ParsedLine}
 use Rattle.ld_work.specs.declared.parsed.ParsedText.{ParsedText}
 use Rattle.ld_work.specs.declared.parsed.ParsedTexts.{ParsedTexts}
-use Rattle.ld_work.proofs.Parsing.{get-taken, lines-length, take-next}
+use Rattle.ld_work.proofs.Parsing.{take-next}
 
 module _ (texts : NumberedTexts) (parsed : ParsedText) (is : IsParsedText texts parsed) where
-  -- as many lines are parsed as are read
-  pub parsed-count : length parsed.lines.items ≡ parsed.cursor.before
-  parsed-count =
-      let within = is.at.within in
-      let all = lines-length texts parsed.cursor.text in
-      let long = length-take parsed.cursor.before (parsed_lines texts parsed.cursor.text) in
-      ap length is.lines ∙ omega arith
-
-  pub parsed-there : (before : ℕ) → before < length parsed.lines.items → slice_get parsed.lines.items before ≡ slice_get (parsed_lines texts parsed.cursor.text) before
-  parsed-there before within =
-      ap (λ ls. slice_get ls before) is.lines ∙ get-taken (parsed_lines texts parsed.cursor.text) parsed.cursor.before before (subst (λ ls. before < length ls) is.lines within)
-
   -- one line more
   pub parsed-more : (new : ParsedText) (line : ParsedLine) → slice_get (parsed_lines texts parsed.cursor.text) parsed.cursor.before ≡ Some line → new.cursor.text ≡ parsed.cursor.text → new.cursor.before ≡ parsed.cursor.before + 1 → IsAt texts new.cursor → new.lines.items ≡ parsed.lines.items ++ line ∷ [] → IsParsedText texts new
   parsed-more new line there same more at grown =
