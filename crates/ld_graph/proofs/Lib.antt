@@ -3,3 +3,4 @@ pub mod Heights
 pub mod FoundBy
 pub mod Dirt
 pub mod More
+pub mod Marked

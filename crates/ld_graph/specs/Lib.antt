@@ -4,3 +4,4 @@ pub mod Items
 pub mod Changing
 pub mod Laws
 pub mod Seen
+pub mod Inside

@@ -4,6 +4,7 @@
 
 mod dirty;
 mod laws;
+mod marks;
 
 pub use dirty::Dirty;
 pub use laws::{dirt_law, height_law, rise_law};
