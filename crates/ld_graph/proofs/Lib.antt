@@ -6,3 +6,7 @@ pub mod Dirt
 pub mod More
 pub mod Marked
 pub mod Written
+pub mod Linked
+pub mod Rising
+pub mod Referring
+pub mod Upward

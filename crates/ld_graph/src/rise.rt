@@ -57,7 +57,8 @@ fn lift_users(links: &Links, heights: &mut Vec<u8>, marks: &mut Marks, text: u32
     ensures below { AreBelow (web_of links.now.items) cap heights.new.items }
     ensures settled { (user child : ℕ) → RefersByName links.now.items user child text → IsSettled cap heights.new.items marks.new user child }
 {
-    for user in links.users(text) {
+    let users = links.users(text);
+    for user in users {
         lift_user(links, heights, marks, *user, text, cap);
     }
 }

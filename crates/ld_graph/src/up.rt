@@ -9,7 +9,7 @@ ghost use Rattle.ld_graph.specs.Web.{Reaches, Refers};
 
 use crate::links::Links;
 use crate::marks::Marks;
-use ld_names::TextId;
+use ld_names::{TextId, file_laws};
 
 // Whether a text finds another by its name.
 fn finds(links: &Links, user: u32, text: u32) -> bool
@@ -29,7 +29,9 @@ fn mark_parents(links: &Links, marks: &mut Marks, text: u32)
     ensures marked { (user : ℕ) → Refers (web_of links.now.items) user text → IsMarked marks.new user }
     ensures only { (other : ℕ) → IsMarked marks.new other → IsMarked marks.old other ⊎ Refers (web_of links.now.items) other text }
 {
-    for user in links.users(text) {
+    file_laws();
+    let users = links.users(text);
+    for user in users {
         marks.mark_if(*user, finds(links, *user, text));
     }
 }
@@ -42,7 +44,8 @@ fn mark_namers(links: &Links, marks: &mut Marks, text: u32)
     ensures marked { (user : ℕ) → NamesText links.now.items user text → IsMarked marks.new user }
     ensures only { (other : ℕ) → IsMarked marks.new other → IsMarked marks.old other ⊎ NamesText links.now.items other text }
 {
-    for user in links.users(text) {
+    let users = links.users(text);
+    for user in users {
         marks.mark_if(*user, links.looks_at(*user, text));
     }
 }
