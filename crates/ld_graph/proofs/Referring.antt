@@ -76,17 +76,14 @@ module _ (equality : IsFileEquality) where
       (number.0, file_of_number equality items (file_in number.0 name) child number.1)
 
   -- whoever refers to a text does so by its name
-  pub refers_name : (items : Items) (user text : ℕ) (file : FileId) → file_at items text ≡ Some file → Refers (web_of items) user text → RefersByName items user text text
+  pub refers_name : (items : Items) (user text : ℕ) (file : FileId) → file_at items text ≡ Some file → Refers (web_of items) user text → Uses items user file.name × (found_by_name items user text ≡ Some text)
   refers_name items user text file is r =
       let by = finds_by items user text r in
       let own = found_name items text by.1.from.folder by.0 by.1.finds in
-      let name : by.0 ≡ file.name = (let e : file ≡ file_in own.0 by.0 = (let f = sym is ∙ own.1 in cc) in sym (ap (λ (f : FileId). f.name) e)) in
-      record {
-        file = file;
-        file_is = is;
-        uses = subst (Uses items user) name by.1.uses;
-        finds = by_file items user text by.1.from file is by.1.from_is ∙ ap (found items by.1.from.folder) (sym name) ∙ by.1.finds;
-      }
+      let name : by.0 ≡ file.name = (let e : file ≡ file_in own.0 by.0 = (let f = sym is ∙ own.1 in cc) in sym (ap (λ (f : FileId). f.name) e)) in (
+        subst (Uses items user) name by.1.uses,
+        by_file items user text by.1.from file is by.1.from_is ∙ ap (found items by.1.from.folder) (sym name) ∙ by.1.finds,
+      )
 
 -- naming, by the users of a name
 pub namer_uses : (items : Items) (user text : ℕ) (n : NamesText items user text) → Uses items user n.file.name × LooksAt items user text

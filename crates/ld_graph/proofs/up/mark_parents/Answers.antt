@@ -29,9 +29,9 @@ returns-clause-marked c = λ user r.
     let users = c.users-users.result.now in
     let file = known_file items c.args.text c.requires.text in
     let name = refers_name c.file_laws.ensures.same items user c.args.text file.0 file.1 r in
-    let at = (c.users-users.ensures.users file.0 file.1 user).1 name.uses in
+    let at = (c.users-users.ensures.users file.0 file.1 user).1 name.0 in
     let is : get_or users at.0 0 ≡ user = get_or_default users at.0 0 user at.1 ∙ at.2 in
-    subst (IsMarked c.loop-user.marks) is (c.loop-user.invariant.marked at.0 (omega (arith, at.1)) (subst (λ u. found_by_name items u c.args.text ≡ Some c.args.text) (sym is) name.finds))
+    subst (IsMarked c.loop-user.marks) is (c.loop-user.invariant.marked at.0 (omega (arith, at.1)) (subst (λ u. found_by_name items u c.args.text ≡ Some c.args.text) (sym is) name.1))
 
 pub returns-clause-only : goal.returns-clause-only
 returns-clause-only c = λ other m.
