@@ -69,6 +69,14 @@ by_name items user child text r =
     let from = used_file items user r.file.name r.uses in
     refers_by items user child r.file.name (record { from = from.0; from_is = from.1; uses = r.uses; finds = sym (by_file items user text from.0 r.file r.file_is from.1) ∙ r.finds })
 
+-- a user of a text's name refers to what it finds by it
+pub user_refers : (items : Items) (user text : ℕ) (users : List ℕ) → AreUsers items text users → Contains users user → (child : ℕ) → found_by_name items user text ≡ Some child → Refers (web_of items) user child
+user_refers items user text users are c child finds = at (file_at items text) refl finds
+  where
+    at : (file : Option FileId) → file_at items text ≡ file → option_and_then (λ (f : FileId). option_and_then (λ (g : FileId). found items g.folder f.name) (file_at items user)) file ≡ Some child → Refers (web_of items) user child
+    at None is e = cc
+    at (Some file) is e = by_name items user child text (record { file = file; file_is = is; uses = (are file is user).0 c; finds = finds })
+
 module _ (equality : IsFileEquality) where
   pub found_name : (items : Items) (child : ℕ) (folder : Folder) (name : List ℕ) → found items folder name ≡ Some child → (own : Folder) × (file_at items child ≡ Some (file_in own name))
   found_name items child folder name finds =

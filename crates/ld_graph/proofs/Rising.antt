@@ -137,3 +137,34 @@ below_one web cap old new text high below le only other =
 pub work_falls : (n before after list longer : ℕ) → after < before → longer ≤ n → after * suc n + longer < before * suc n + list
 work_falls n before after list longer falls within =
     let h = mul-add-lt after (suc n) longer before falls (omega arith) in omega (arith, h)
+
+-- ---- the steps
+
+pub settled_lifted : (web : Web) (cap : ℕ) (old new : List ℕ) (before after : Marked) (text high : ℕ) → Raises cap old new before after → high ≡ min cap (over web (height_in old) text) → high ≤ height_in new text → (child : ℕ) → Refers web text child → IsSettled cap new after text child
+settled_lifted web cap old new before after text high g is le child r =
+    let s = settled_over web cap high (height_in old) text child r (omega arith) in
+    ⊎_elim (λ same. inr (omega arith)) (λ rose. inl rose.0) (g.each child)
+
+pub floor_lifted : (web : Web) (cap : ℕ) (old new : List ℕ) (text high : ℕ) → high ≡ min cap (over web (height_in old) text) → high ≤ height_in new text → HasFloor web cap new text
+floor_lifted web cap old new text high is le some = let f = floor_over web cap high (height_in old) text (omega arith) some in omega arith
+
+pub below_lifted : (web : Web) (cap : ℕ) (old new : List ℕ) (text high : ℕ) → AreBelow web cap old → high ≡ min cap (over web (height_in old) text) → ((other : ℕ) → (height_in new other ≡ height_in old other) ⊎ (other ≡ text) × (height_in new other ≡ high)) → AreBelow web cap new
+below_lifted web cap old new text high below is only =
+    below_one web cap old new text high below (let s = stays_below web cap (height_in old) text below in omega arith) only
+
+-- the height that a found child calls for
+pub above_small : (cap : ℕ) (heights : List ℕ) (child : Option ℕ) → option_map_or (λ child. min cap (suc (height_in heights child))) child 0 ≤ cap
+above_small cap heights None = omega arith
+above_small cap heights (Some child) = omega arith
+
+pub above_below : (web : Web) (cap : ℕ) (heights : List ℕ) (user : ℕ) (child : Option ℕ) → AreBelow web cap heights → ((one : ℕ) → child ≡ Some one → Refers web user one) → option_map_or (λ child. min cap (suc (height_in heights child))) child 0 ≤ height web cap user
+above_below web cap heights user None below refers = omega arith
+above_below web cap heights user (Some child) below refers = each_stays_below web cap (height_in heights) user child (refers child refl) (below child)
+
+pub settled_above : (cap : ℕ) (old new : List ℕ) (before after : Marked) (user child : ℕ) → Raises cap old new before after → min cap (suc (height_in old child)) ≤ height_in new user → IsSettled cap new after user child
+settled_above cap old new before after user child g le = ⊎_elim (λ same. inr (omega arith)) (λ rose. inl rose.0) (g.each child)
+
+-- a mark is taken off the text that is looked at
+pub settled_taken : (cap : ℕ) (heights : List ℕ) (old new : Marked) (text : ℕ) → ((other : ℕ) → (other ≡ text → ⊥) → IsMarked old other → IsMarked new other) → (user child : ℕ) → IsSettled cap heights old user child → (child ≡ text) ⊎ IsSettled cap heights new user child
+settled_taken cap heights old new text kept user child was =
+    ⊎_elim (λ m. ⊎_elim inl (λ differs. inr (inl (kept child differs m))) (cases_eq child text)) (λ le. inr (inr le)) was
