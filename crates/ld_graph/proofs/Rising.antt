@@ -168,3 +168,25 @@ settled_above cap old new before after user child g le = ⊎_elim (λ same. inr 
 pub settled_taken : (cap : ℕ) (heights : List ℕ) (old new : Marked) (text : ℕ) → ((other : ℕ) → (other ≡ text → ⊥) → IsMarked old other → IsMarked new other) → (user child : ℕ) → IsSettled cap heights old user child → (child ≡ text) ⊎ IsSettled cap heights new user child
 settled_taken cap heights old new text kept user child was =
     ⊎_elim (λ m. ⊎_elim inl (λ differs. inr (inl (kept child differs m))) (cases_eq child text)) (λ le. inr (inr le)) was
+
+pub marked_up : (old new : List ℕ) (text : ℕ) → ((other : ℕ) → (other ≡ text) ⊎ (height_in new other ≡ height_in old other)) → height_in old text ≤ height_in new text → (other : ℕ) → height_in old other ≤ height_in new other
+marked_up old new text others up other = ⊎_elim (λ same. subst (λ x. height_in old x ≤ height_in new x) (sym same) up) (λ e. omega arith) (others other)
+
+-- where one text rises that is so, what is settled by the others stays so
+pub settled_up : (cap : ℕ) (old new : List ℕ) (P : ℕ → Type 0) (text parent child : ℕ) → P text → ((other : ℕ) → (other ≡ text) ⊎ (height_in new other ≡ height_in old other)) → ((other : ℕ) → height_in old other ≤ height_in new other) → P child ⊎ (min cap (suc (height_in old child)) ≤ height_in new parent) ⊎ (min cap (suc (height_in old child)) ≤ height_in old parent) → P child ⊎ (min cap (suc (height_in new child)) ≤ height_in new parent)
+settled_up cap old new P text parent child p others up was =
+    ⊎_elim
+    inl
+    (λ le. ⊎_elim
+    (λ same. inl (subst P (sym same) p))
+    (λ e. inr (⊎_elim (λ a. omega arith) (λ b. let u = up parent in omega arith) le))
+    (others child))
+    was
+
+-- lowered heights
+pub lowered_below : (web : Web) (cap : ℕ) (heights less : List ℕ) (marked : ℕ → Type 0) (listed : ℕ → Type 0) → ((text : ℕ) → marked text → listed text) → ((text : ℕ) → marked text ⊎ (height_in heights text ≡ height web cap text)) → ((text : ℕ) → listed text → height_in less text ≡ 0) → ((text : ℕ) → listed text ⊎ (height_in less text ≡ height_in heights text)) → AreBelow web cap less
+lowered_below web cap heights less marked listed on right low others text =
+    ⊎_elim
+    (λ m. let z = low text (on text m) in omega arith)
+    (λ e. ⊎_elim (λ l. let z = low text l in omega arith) (λ same. omega arith) (others text))
+    (right text)

@@ -98,7 +98,9 @@ impl Marks {
     // Takes the mark off the text that was marked last.
     pub(crate) fn take_last(&mut self) -> Option<u32>
         ensures none { IfNone result ((self.old.list ≡ []) × (self.new ≡ self.old)) }
+        ensures unmarked { IfNone result ((text : ℕ) → IsMarked self.old text → ⊥) }
         ensures within { IfSome result (λ text. text < length self.old.marks) }
+        ensures few { IfSome result (λ text. length self.old.list ≤ length self.old.marks) }
         ensures marks { IfSome result (λ text. self.new.marks ≡ slice_set self.old.marks text false) }
         ensures shorter { IfSome result (λ text. length self.new.list + 1 ≡ length self.old.list) }
     {

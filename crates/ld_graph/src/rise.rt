@@ -10,6 +10,7 @@ ghost use Rattle.ld_graph.specs.Web.{Refers, height, over};
 
 use crate::links::Links;
 use crate::marks::Marks;
+use ld_names::file_laws;
 
 // Lifts a text to a height, and marks it if it was lower.
 fn lift(heights: &mut Vec<u8>, marks: &mut Marks, text: u32, high: u8)
@@ -89,6 +90,7 @@ fn rise(links: &Links, heights: &mut Vec<u8>, marks: &mut Marks, cap: u8)
     ensures none { marks.new.list ≡ [] }
     ensures right { AreRight (web_of links.now.items) cap heights.new.items }
 {
+    file_laws();
     while let Some(text) = marks.take_last() {
         lift_users(links, heights, marks, text, cap);
     }

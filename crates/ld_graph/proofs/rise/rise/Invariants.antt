@@ -1,4 +1,4 @@
-use Rattle.std.proofs.Common.{◌≡◌, ◌+◌, ◌*◌, ℕ, suc, length}
+use Rattle.std.proofs.Common.{◌≡◌, ◌+◌, ◌*◌, ℕ, suc, min, length}
 use Rattle.ld_graph.specs.Inside.Rising.{AreBelow, AreSettled, HasFloor, slack}
 use Rattle.ld_graph.specs.Items.{web_of}
 use Rattle.ld_graph.proofs.rise.rise.Given as goal
@@ -13,4 +13,4 @@ invariant-loop-text l = record {
 }
 
 abbrev pub decreases-loop-text : goal.decreases-loop-text
-decreases-loop-text l = slack l.cap l.heights.items * suc (length l.marks.marks) + length l.marks.list
+decreases-loop-text l = slack l.cap l.heights.items * suc (length l.marks.marks) + min (length l.marks.list) (length l.marks.marks)
