@@ -10,3 +10,4 @@ pub mod Linked
 pub mod Rising
 pub mod Referring
 pub mod Upward
+pub mod Users
