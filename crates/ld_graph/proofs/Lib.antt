@@ -11,3 +11,4 @@ pub mod Rising
 pub mod Referring
 pub mod Upward
 pub mod Users
+pub mod Rewritten
