@@ -12,3 +12,4 @@ pub mod Referring
 pub mod Upward
 pub mod Users
 pub mod Rewritten
+pub mod Naming
