@@ -240,3 +240,17 @@ passes_more test old new keys more name =
     by : (key : Option ℕ) → option_map_or (passes_at test old) key false ≡ true → option_map_or (passes_at test new) key false ≡ true
     by None is = is
     by (Some key) is = more key is
+
+-- ---- an absent text made absent stays
+
+set_item : (xs : Items) (k : ℕ) (x : Item) → slice_get xs k ≡ Some x → set xs k x ≡ xs
+set_item [] k x is = refl
+set_item (y ∷ xs) zero x is = let e : y ≡ x = cc in ap (λ z. z ∷ xs) (sym e)
+set_item (y ∷ xs) (suc k) x is = ap (λ zs. y ∷ zs) (set_item xs k x is)
+
+pub absent_stays : (items : Items) (text : ℕ) → names_at items text ≡ None → with_names_at items text None ≡ items
+absent_stays items text none = by (slice_get items text) refl none
+  where
+    by : (item : Option Item) → slice_get items text ≡ item → option_and_then (λ (one : Item). one.1) item ≡ None → with_names_at items text None ≡ items
+    by None at is = ap (λ one. option_map_or (λ (one : Item). set items text (one.0, None)) one items) at
+    by (Some item) at is = with_is items text item None at ∙ ap (λ (names : Names). set items text (item.0, names)) (sym is) ∙ set_item items text item at
