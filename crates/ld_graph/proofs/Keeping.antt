@@ -17,7 +17,7 @@ use Rattle.ld_names.specs.Standing.{file_in}
 use Rattle.ld_names.specs.declared.file.FileId.{FileId}
 use Rattle.ld_names.specs.declared.file.Folder.{Folder}
 use Rattle.ld_graph.specs.Items.{Item, Items, file_at, names_at, number_of, numbers_of}
-use Rattle.ld_graph.specs.Inside.Linking.{IsKey, IsLinked, IsNode, Uses, file_of, item_of, items_of, keys_in}
+use Rattle.ld_graph.specs.Inside.Linking.{IsKey, IsLinked, IsNode, KeepsLinks, Linked, Uses, file_of, item_of, items_of, keys_in}
 use Rattle.ld_graph.specs.Inside.Nodes.{KeepsNames, Nodes, has_space, has_spare, key_of, name_at, name_of, names_with, number_in, numbers_at, passes, passes_at, users_at}
 use Rattle.ld_graph.specs.declared.node.Node.{Node}
 use Rattle.ld_graph.specs.declared.node.Text.{Text}
@@ -278,3 +278,16 @@ module _ (equality : IsFileEquality) (nodes : Nodes) (keys : List (List ℕ × �
     pub further_place : (test : Node → Bool) → test node ≡ true → list_any (bytes_eq name) (names_with test new more) ≡ true
     further_place test passes_it =
         named-is test new more name ∙ ap (λ o. option_map_or (passes_at test new) o false) put_here ∙ ap (λ n. option_map_or test n false) updates.changed ∙ passes_it
+
+-- ---- one after another
+
+pub keeps_none : (links : Linked) → KeepsLinks links links
+keeps_none links = record { items = refl; room = omega arith; spares = λ name has. has; places = λ name has. has }
+
+pub keeps_more : (old mid new : Linked) → KeepsLinks old mid → KeepsLinks mid new → KeepsLinks old new
+keeps_more old mid new one two = record {
+  items = two.items ∙ one.items;
+  room = let a = one.room in let b = two.room in omega arith;
+  spares = λ name has. two.spares name (one.spares name has);
+  places = λ name has. two.places name (one.places name has);
+}
