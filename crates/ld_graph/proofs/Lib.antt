@@ -13,3 +13,4 @@ pub mod Upward
 pub mod Users
 pub mod Rewritten
 pub mod Naming
+pub mod Added
