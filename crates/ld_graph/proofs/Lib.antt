@@ -12,5 +12,6 @@ pub mod Referring
 pub mod Upward
 pub mod Users
 pub mod Rewritten
+pub mod Keeping
 pub mod Naming
 pub mod Added
