@@ -14,3 +14,4 @@ pub mod Users
 pub mod Rewritten
 pub mod Keeping
 pub mod Naming
+pub mod Added
