@@ -40,7 +40,7 @@ cond-map : (b : Bool) (n : ℕ) → option_map suc (cond b (Some n) None) ≡ co
 cond-map true n = refl
 cond-map false n = refl
 
-position-push : (test : FileId → Bool) (files : List FileId) (file : FileId) → position test (files ++ file ∷ []) ≡ option_or (position test files) (cond (test file) (Some (length files)) None)
+pub position-push : (test : FileId → Bool) (files : List FileId) (file : FileId) → position test (files ++ file ∷ []) ≡ option_or (position test files) (cond (test file) (Some (length files)) None)
 position-push test [] file = position-cons test file [] ∙ refl
 position-push test (first ∷ files) file =
     position-cons test first (files ++ file ∷ []) ∙ ap (λ rest. cond (test first) (Some 0) (option_map suc rest)) (position-push test files file) ∙ by (test first) ∙ sym (ap (λ front. option_or front (cond (test file) (Some (suc (length files))) None)) (position-cons test first files))
@@ -49,7 +49,7 @@ position-push test (first ∷ files) file =
     by true = refl
     by false = or-map (position test files) (cond (test file) (Some (length files)) None) ∙ ap (option_or (option_map suc (position test files))) (cond-map (test file) (length files))
 
-get-push : {X : Type 0} (xs : List X) (x : X) (k : ℕ) (y : X) → slice_get (xs ++ x ∷ []) k ≡ Some y → (slice_get xs k ≡ Some y) ⊎ (y ≡ x)
+pub get-push : {X : Type 0} (xs : List X) (x : X) (k : ℕ) (y : X) → slice_get (xs ++ x ∷ []) k ≡ Some y → (slice_get xs k ≡ Some y) ⊎ (y ≡ x)
 get-push [] x zero y is = let e : x ≡ y = cc in inr (sym e)
 get-push [] x (suc k) y is = cc
 get-push (first ∷ xs) x zero y is = inl is

@@ -51,7 +51,7 @@ known_file [] text lt = absurd (omega arith)
 known_file (item ∷ items) zero lt = (item.0, refl)
 known_file (item ∷ items) (suc text) lt = known_file items text (omega arith)
 
-by_file : (items : Items) (user text : ℕ) (from file : FileId) → file_at items text ≡ Some file → file_at items user ≡ Some from → found_by_name items user text ≡ found items from.folder file.name
+pub by_file : (items : Items) (user text : ℕ) (from file : FileId) → file_at items text ≡ Some file → file_at items user ≡ Some from → found_by_name items user text ≡ found items from.folder file.name
 by_file items user text from file is also =
     ap (option_and_then (λ (f : FileId). option_and_then (λ (g : FileId). found items g.folder f.name) (file_at items user))) is
     ∙ ap (option_and_then (λ (g : FileId). found items g.folder file.name)) also

@@ -13,7 +13,7 @@ use crate::links::Links;
 use crate::marks::Marks;
 use crate::rise::{raise_learnt, settle};
 use crate::up::{mark_listed, mark_touched, mark_up};
-use ld_names::{FileId, Name, TextId};
+use ld_names::{FileId, Name, TextId, file_laws};
 use std::alloc::{AllocError, Global};
 use std::marker::Model;
 
@@ -97,6 +97,7 @@ impl Graph {
         ensures depth { self.new.depth ≡ self.old.depth }
         ensures items { self.new.items ≡ items_learnt self.old.items learning }
     {
+        file_laws();
         let text = self.heights.len() as u32;
         let Learning { file, names, room } = learning;
         self.links.add(file);
