@@ -15,3 +15,4 @@ pub mod Rewritten
 pub mod Keeping
 pub mod Naming
 pub mod Added
+pub mod Preparing
