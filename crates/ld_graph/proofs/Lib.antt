@@ -16,3 +16,4 @@ pub mod Keeping
 pub mod Naming
 pub mod Added
 pub mod Learning
+pub mod Preparing

@@ -1,25 +1,27 @@
-use Rattle.std.proofs.Common.{rules, ◌≡◌, ◌≤◌, ◌<◌, ◌^◌, ◌+◌, ◌↔◌, IfOk, true, suc, [], length, option_and_then, option_map, slice_get, ℕ, ◌-◌, ◌*◌, ◌/◌, ◌%◌, Bool, false, nat_eq, nat_lt, List, ◌∷◌, ◌++◌, slice_index_or, slice_set, bit_and, bit_or, Fits, w8, w32, w64, Bor, MutBor}
-use Rattle.std.specs.Option.{option_copied}
-use Rattle.ld_names.specs.declared.file.TextId.{TextId}
-use Rattle.ld_graph.specs.Changing.{IsDirty}
-use Rattle.ld_graph.specs.Dirt.{is_dirty}
-use Rattle.ld_graph.specs.Items.{names_at, number_of, web_of}
-use Rattle.ld_graph.specs.Seen.{HasRoomToEdit, HasRoomToLearn, IsEditOf, KeepsGraph, changed_by, items_edited, items_learnt}
-use Rattle.ld_graph.specs.Web.{height}
+use Rattle.std.proofs.Common.{◌≡◌, ◌≤◌, ◌<◌, ◌-◌, min, length, sym, ap, subst, arith, rules, vec_capacity}
+use Rattle.std.proofs.lemmas.Result.{IfOk-weaker}
+use Rattle.ld_graph.specs.Seen.{Editing, HasRoomToEdit}
+use Rattle.ld_graph.proofs.Preparing.{graph_of, keeps_graph}
 use Rattle.ld_graph.proofs.graph.Graph.prepare_edit.Goals as goal
 
--- src/graph.rt:128:9
 pub returns-in_err-keep_listed-clause-same : goal.returns-in_err-keep_listed-clause-same
-returns-in_err-keep_listed-clause-same c = ?
+returns-in_err-keep_listed-clause-same c =
+    let room = min (vec_capacity c.self.inside.heights - length c.self.inside.heights.items) c.self.inside.marks.room in
+    rw (c.self.view_is) at (keeps_graph c.self.inside.depth c.self.inside.links c.keep_listed.new.self room room c.keep_listed.ensures.same (omega arith))
 
--- src/graph.rt:129:48
 pub overflow_cast-len : goal.overflow_cast-len
-overflow_cast-len c = ?
+overflow_cast-len c = omega (arith, c.self.invariant.few, c.self.invariant.size, c.len.ensures, c.self.inside.heights.ok.0)
 
--- src/graph.rt:117:5
 pub returns-clause-room : goal.returns-clause-room
-returns-clause-room c = ?
+returns-clause-room c =
+    IfOk-weaker c.new.result _ _
+    (λ editing is. subst (HasRoomToEdit (graph_of c.self.inside.depth c.keep_listed.new.self (min (vec_capacity c.self.inside.heights - length c.self.inside.heights.items) c.self.inside.marks.room))) (sym is) (record {
+      names = c.in_ok-keep_listed.ensures.spares;
+      texts = omega (arith, c.self.invariant.size, ap length c.keep_listed.ensures.same.items, c.len.ensures, c.self.inside.heights.ok.0);
+    }))
+    c.new.ensures
 
--- src/graph.rt:117:5
 pub returns-clause-same : goal.returns-clause-same
-returns-clause-same c = ?
+returns-clause-same c =
+    let room = min (vec_capacity c.self.inside.heights - length c.self.inside.heights.items) c.self.inside.marks.room in
+    rw (c.self.view_is) at (keeps_graph c.self.inside.depth c.self.inside.links c.keep_listed.new.self room room c.keep_listed.ensures.same (omega arith))

@@ -1,25 +1,32 @@
-use Rattle.std.proofs.Common.{rules, ◌≡◌, ◌≤◌, ◌<◌, ◌^◌, ◌+◌, ◌↔◌, IfOk, true, suc, [], length, option_and_then, option_map, slice_get, ℕ, ◌-◌, ◌*◌, ◌/◌, ◌%◌, Bool, false, nat_eq, nat_lt, List, ◌∷◌, ◌++◌, slice_index_or, slice_set, bit_and, bit_or, Fits, w8, w32, w64, Bor, MutBor}
-use Rattle.std.specs.Option.{option_copied}
-use Rattle.ld_names.specs.declared.file.TextId.{TextId}
-use Rattle.ld_graph.specs.Changing.{IsDirty}
-use Rattle.ld_graph.specs.Dirt.{is_dirty}
-use Rattle.ld_graph.specs.Items.{names_at, number_of, web_of}
-use Rattle.ld_graph.specs.Seen.{HasRoomToEdit, HasRoomToLearn, IsEditOf, KeepsGraph, changed_by, items_edited, items_learnt}
-use Rattle.ld_graph.specs.Web.{height}
+use Rattle.std.proofs.Common.{◌≡◌, ◌≤◌, ◌<◌, ◌-◌, min, length, sym, ap, subst, arith, rules, vec_capacity}
+use Rattle.std.proofs.lemmas.Result.{IfOk-weaker}
+use Rattle.ld_graph.specs.Seen.{HasRoomToLearn, Learning}
+use Rattle.ld_graph.proofs.Preparing.{graph_of, keeps_graph}
 use Rattle.ld_graph.proofs.graph.Graph.prepare_learn.Goals as goal
 
--- src/graph.rt:84:9
 pub returns-in_err-reserve_text-clause-same : goal.returns-in_err-reserve_text-clause-same
-returns-in_err-reserve_text-clause-same c = ?
+returns-in_err-reserve_text-clause-same c =
+    let room = min (vec_capacity c.self.inside.heights - length c.self.inside.heights.items) c.self.inside.marks.room in
+    rw (c.self.view_is) at (keeps_graph c.self.inside.depth c.self.inside.links c.reserve_text.new.self room room c.reserve_text.ensures.same (omega arith))
 
--- src/graph.rt:85:9
 pub returns-in_err-reserve-clause-same : goal.returns-in_err-reserve-clause-same
-returns-in_err-reserve-clause-same c = ?
+returns-in_err-reserve-clause-same c =
+    let room = min (vec_capacity c.self.inside.heights - length c.self.inside.heights.items) c.self.inside.marks.room in
+    let more = min (vec_capacity c.reserve.new.self - length c.reserve.new.self.items) c.self.inside.marks.room in
+    rw (c.self.view_is) at (keeps_graph c.self.inside.depth c.self.inside.links c.reserve_text.new.self room more c.reserve_text.ensures.same (omega (arith, ap length c.reserve.ensures.items, c.reserve.ensures.capacity)))
 
--- src/graph.rt:86:9
 pub returns-in_err-reserve-2-clause-same : goal.returns-in_err-reserve-2-clause-same
-returns-in_err-reserve-2-clause-same c = ?
+returns-in_err-reserve-2-clause-same c =
+    let room = min (vec_capacity c.self.inside.heights - length c.self.inside.heights.items) c.self.inside.marks.room in
+    let more = min (vec_capacity c.reserve.new.self - length c.reserve.new.self.items) c.reserve-2.new.self.room in
+    rw (c.self.view_is) at (keeps_graph c.self.inside.depth c.self.inside.links c.reserve_text.new.self room more c.reserve_text.ensures.same (omega (arith, ap length c.reserve.ensures.items, c.reserve.ensures.capacity, c.reserve-2.ensures.kept)))
 
--- src/graph.rt:74:5
 pub returns-clause-room : goal.returns-clause-room
-returns-clause-room c = ?
+returns-clause-room c =
+    IfOk-weaker c.new.result _ _
+    (λ learning is. subst (HasRoomToLearn (graph_of c.self.inside.depth c.keep_listed.new.self (min (vec_capacity c.reserve.new.self - length c.reserve.new.self.items) c.reserve-2.new.self.room))) (sym is) (record {
+      room = omega (arith, c.in_ok-reserve_text.ensures.room, c.keep.ensures.same.room, c.keep_listed.ensures.same.room, c.in_ok-reserve.ensures.ok, ap length c.reserve.ensures.items, c.in_ok-reserve-2.ensures.room, c.reserve.ensures.len);
+      file = c.keep_listed.ensures.same.places c.args.file.now.name c.in_ok-keep.ensures.place;
+      names = c.in_ok-keep_listed.ensures.spares;
+    }))
+    c.new.ensures
