@@ -3,3 +3,5 @@ pub mod Heights
 pub mod FoundBy
 pub mod Dirt
 pub mod More
+pub mod Agreed
+pub mod Turned

@@ -1,5 +1,7 @@
 pub mod Dirt
 pub mod Reading
+pub mod Agreeing
+pub mod AgreeingLaws
 pub mod Resolving
 pub mod Web
 pub mod Items

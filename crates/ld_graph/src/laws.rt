@@ -1,6 +1,8 @@
+ghost use Rattle.ld_graph.specs.AgreeingLaws.{ItemsLaws};
 ghost use Rattle.ld_graph.specs.Laws.{DirtIsLeast, DirtIsOne, HeightsAreOne, HeightsRise, OthersStay};
 
 use ld_names::file_laws;
+use ld_texts::{learning_law, number_law};
 
 /// What meets the local equations is the height.
 pub fn height_law()
@@ -22,4 +24,13 @@ pub fn rise_law()
     ensures { HeightsRise }
 {
     file_laws();
+}
+
+/// What the items that known texts give a graph say of the texts, and what a change of the texts changes of
+/// them.
+pub fn items_law()
+    ensures { ItemsLaws }
+{
+    number_law();
+    learning_law();
 }

@@ -11,6 +11,6 @@ mod resolving;
 mod tests;
 
 pub use dirty::Dirty;
-pub use laws::{dirt_law, height_law, rise_law};
+pub use laws::{dirt_law, height_law, items_law, rise_law};
 pub use reader::Reader;
 pub use resolving::{Resolved, resolve};

@@ -1,0 +1,59 @@
+-- What the items that known texts give a graph say of the texts, and what a change of the texts changes of them.
+use Rattle.std.specs.Prelude.{◌≡◌, ℕ, List, [], ◌∷◌, Option, None, length, option_map}
+use Rattle.std.specs.Option.{is_some}
+use Rattle.ld_names.specs.declared.file.FileId.{FileId}
+use Rattle.ld_names.specs.declared.file.Folder.{Folder}
+use Rattle.ld_names.specs.Standing.{Found, Present, Absent, Unknown, Known, Text, find, known_map}
+use Rattle.ld_texts.specs.Editing.{AreKnown, files_in, refusal_of}
+use Rattle.ld_texts.specs.Known.{file_at as known_file, id_of, lines_at}
+use Rattle.ld_texts.specs.Learning.{IsApt, Learn, Ready, known_after}
+use Rattle.ld_texts.specs.declared.edit.Edit.{Edit}
+use Rattle.ld_graph.specs.Agreeing.{Change, Learns, Edits, change_of, editing_of, items_of_known, names_among}
+use Rattle.ld_graph.specs.Changing.{IsChanged, IsMore}
+use Rattle.ld_graph.specs.Items.{Items, file_at, found, names_at, number_of, presence}
+use Rattle.ld_graph.specs.Seen.{IsEditOf, changed_by, items_edited, items_learnt}
+
+-- the number of the file that a look-up finds
+abbrev pub number_found : Known → Found → Option ℕ
+number_found known (Present file) = id_of known file
+number_found known Absent = None
+number_found known (Unknown folder) = None
+
+-- the items say of each number and of each file what the texts say
+pub record ItemsAgree (known : Known) : Type 0 where
+  pub count : length (items_of_known known) ≡ length known
+  pub number : (file : FileId) → number_of (items_of_known known) file ≡ id_of known file
+  pub file : (id : ℕ) → file_at (items_of_known known) id ≡ known_file known id
+  pub presence : (id : ℕ) → presence (items_of_known known) id ≡ option_map (λ file. is_some (lines_at known id)) (known_file known id)
+  pub names : (id : ℕ) → names_at (items_of_known known) id ≡ option_map names_among (lines_at known id)
+  pub found : (from : Folder) (name : List ℕ) → found (items_of_known known) from name ≡ number_found known (find (known_map known) from name)
+
+-- the items after a change
+abbrev pub items_after : Items → Change → Items
+items_after items (Learns learning) = items_learnt items learning
+items_after items (Edits editing) = items_edited items editing
+
+-- the texts that a change changed
+abbrev pub changed_in : Items → Change → List ℕ
+changed_in items (Learns learning) = length items ∷ []
+changed_in items (Edits editing) = changed_by editing
+
+-- a change of files that are known, or of one that is not where it is learnt, is that change of the items; and which of
+-- them it changes
+pub record ChangesItems (known : Known) (ready : Ready) : Type 0 where
+  pub items : items_of_known (known_after known ready) ≡ items_after (items_of_known known) (change_of known ready)
+  pub changed : IsChanged (items_of_known known) (items_of_known (known_after known ready)) (changed_in (items_of_known known) (change_of known ready))
+
+-- where a file is learnt all that was known stays
+abbrev pub LearningKeepsItems : Type 0
+LearningKeepsItems = (known : Known) (file : FileId) (text : Text) → id_of known file ≡ None → IsMore (items_of_known known) (items_of_known (known_after known (Learn file text)))
+
+-- an edit that is not refused changes known texts, and two where it moves lines
+abbrev pub EditsTexts : Type 0
+EditsTexts = (max_weight : ℕ) (known : Known) (edit : Edit) → AreKnown known (files_in edit) → refusal_of max_weight known edit ≡ None → IsEditOf (items_of_known known) (editing_of known edit)
+
+pub record ItemsLaws : Type 0 where
+  pub agree : (known : Known) → ItemsAgree known
+  pub change : (known : Known) (ready : Ready) → IsApt known ready → ChangesItems known ready
+  pub learning : LearningKeepsItems
+  pub edits : EditsTexts
