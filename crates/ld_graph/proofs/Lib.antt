@@ -5,3 +5,5 @@ pub mod Dirt
 pub mod More
 pub mod Agreed
 pub mod Turned
+pub mod MovedName
+pub mod Moves

@@ -3,6 +3,8 @@ pub mod Reading
 pub mod Agreeing
 pub mod AgreeingLaws
 pub mod Resolving
+pub mod Moving
+pub mod Inside
 pub mod Web
 pub mod Items
 pub mod Changing

@@ -1,0 +1,2 @@
+-- What the private types of this crate mean; no other crate cites it.
+pub mod Moving
