@@ -1,9 +1,9 @@
 -- Moves by the numbers of texts lead where moves by files do.
 use Rattle.std.proofs.Common.{◌≡◌, ◌==◌, ◌||◌, ◌++◌, ◌+◌, ◌-◌, ◌<◌, ◌≤◌, ℕ, zero, suc, Bool, true, false, cond, List, [], ◌∷◌, Option, Some, None, refl, ap, sym, subst, ◌∙◌, length, tests, arith}
-use Rattle.std.specs.Prelude.{option_and_then, option_map, unwrap_or, ⊤}
+use Rattle.std.specs.Prelude.{option_and_then, option_map, slice_set, take, unwrap_or, ⊤}
 use Rattle.std.specs.List.{list_any}
 use Rattle.std.specs.Option.{is_some}
-use Rattle.std.proofs.lemmas.List.{length-append}
+use Rattle.std.proofs.lemmas.List.{take_more_set}
 use Rattle.ld_names.specs.Finding.{FindsExactly, IsFileEquality}
 use Rattle.ld_names.specs.Standing.{Absent, find, Found, Known, known_map, Present, same_file, Text as Standing, Unknown}
 use Rattle.ld_names.specs.declared.file.FileId.{FileId}
@@ -209,27 +209,27 @@ module _ (numbers : NumbersAgree) (files : IsFileEquality) (finds : FindsExactly
 
   -- ---- The moves so far.
 
-  -- they are some of 63, and lead on to where all of them end
-  abbrev pub LeadOn : List TextId → TextId → TextId → Type 0
-  LeadOn before last text = (length before ≤ 63) × (last_of (63 - length before) known before last ≡ last_of 63 known [] text)
+  -- they are so many of 63, and lead on to where all of them end
+  abbrev pub LeadOn : ℕ → List TextId → TextId → TextId → Type 0
+  LeadOn count before last text = (count ≤ 63) × (last_of (63 - count) known before last ≡ last_of 63 known [] text)
 
-  pub begin : (before : List TextId) (text : TextId) → before ≡ [] → LeadOn before text text
-  begin before text none = rw none (omega arith, refl)
+  pub end-nowhere : (count : ℕ) (before : List TextId) (last text : TextId) → LeadOn count before last text → part_behind known last ≡ None → last ≡ target_of known text (file_at known text.0)
+  end-nowhere count before last text lead none = sym (moved-nowhere (63 - count) known before last none) ∙ lead.1 ∙ target-is text
 
-  pub end-nowhere : (before : List TextId) (last text : TextId) → LeadOn before last text → part_behind known last ≡ None → last ≡ target_of known text (file_at known text.0)
-  end-nowhere before last text lead none = sym (moved-nowhere (63 - length before) known before last none) ∙ lead.1 ∙ target-is text
+  pub end-twice : (count : ℕ) (before : List TextId) (last next text : TextId) → LeadOn count before last text → part_behind known last ≡ Some next → list_any (λ on. on.0 == next.0) (before ++ last ∷ []) ≡ true → last ≡ target_of known text (file_at known text.0)
+  end-twice count before last next text lead behind among = sym (moved-twice (63 - count) known before last next behind among) ∙ lead.1 ∙ target-is text
 
-  pub end-twice : (before : List TextId) (last next text : TextId) → LeadOn before last text → part_behind known last ≡ Some next → list_any (λ on. on.0 == next.0) (before ++ last ∷ []) ≡ true → last ≡ target_of known text (file_at known text.0)
-  end-twice before last next text lead behind among = sym (moved-twice (63 - length before) known before last next behind among) ∙ lead.1 ∙ target-is text
-
-  pub end-full : (before : List TextId) (last text : TextId) → LeadOn before last text → 63 ≤ length before → last ≡ target_of known text (file_at known text.0)
-  end-full before last text lead full =
-      let none : 63 - length before ≡ 0 = omega arith in
+  pub end-full : (count : ℕ) (before : List TextId) (last text : TextId) → LeadOn count before last text → 63 ≤ count → last ≡ target_of known text (file_at known text.0)
+  end-full count before last text lead full =
+      let none : 63 - count ≡ 0 = omega arith in
       ap (λ more. last_of more known before last) (sym none) ∙ lead.1 ∙ target-is text
 
-  pub lead-on : (before : List TextId) (last next text : TextId) → LeadOn before last text → length before < 63 → part_behind known last ≡ Some next → list_any (λ on. on.0 == next.0) (before ++ last ∷ []) ≡ false → LeadOn (before ++ last ∷ []) next text
-  lead-on before last next text lead short behind other =
-      let longer : length (before ++ last ∷ []) ≡ length before + 1 = length-append before (last ∷ []) in
-      let more : 63 - length before ≡ suc (62 - length before) = omega arith in
-      let left : 63 - length (before ++ last ∷ []) ≡ 62 - length before = omega arith in
-      (omega arith, ap (λ m. last_of m known (before ++ last ∷ []) next) left ∙ sym (moved-on (62 - length before) known before last next behind other) ∙ ap (λ m. last_of m known before last) (sym more) ∙ lead.1)
+  pub lead-on : (count : ℕ) (before : List TextId) (last next text : TextId) → LeadOn count before last text → count < 63 → part_behind known last ≡ Some next → list_any (λ on. on.0 == next.0) (before ++ last ∷ []) ≡ false → LeadOn (count + 1) (before ++ last ∷ []) next text
+  lead-on count before last next text lead short behind other =
+      let more : 63 - count ≡ suc (62 - count) = omega arith in
+      let left : 63 - (count + 1) ≡ 62 - count = omega arith in
+      (omega arith, ap (λ m. last_of m known (before ++ last ∷ []) next) left ∙ sym (moved-on (62 - count) known before last next behind other) ∙ ap (λ m. last_of m known before last) (sym more) ∙ lead.1)
+
+  -- with the moves in the front of a longer list
+  pub lead-set : (count : ℕ) (all : List TextId) (last next text : TextId) → count < length all → LeadOn count (take count all) last text → count < 63 → part_behind known last ≡ Some next → list_any (λ on. on.0 == next.0) (take count all ++ last ∷ []) ≡ false → LeadOn (count + 1) (take (count + 1) (slice_set all count last)) next text
+  lead-set count all last next text within lead short behind other = subst (λ moves. LeadOn (count + 1) moves next text) (sym (take_more_set all count last within)) (lead-on count (take count all) last next text lead short behind other)

@@ -3,14 +3,18 @@
 //! texts and counts the lines that it answers.
 #![tactic(auto)]
 
+mod changes;
 mod dirty;
+mod graph;
 mod laws;
+mod moving;
 mod reader;
 mod resolving;
 #[cfg(test)]
 mod tests;
 
 pub use dirty::Dirty;
+pub use graph::Graph;
 pub use laws::{dirt_law, height_law, items_law, rise_law};
 pub use reader::Reader;
 pub use resolving::{Resolved, resolve};
