@@ -7,3 +7,4 @@ pub mod Agreed
 pub mod Turned
 pub mod MovedName
 pub mod Moves
+pub mod Named

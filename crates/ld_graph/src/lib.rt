@@ -8,7 +8,9 @@ mod dirty;
 mod graph;
 mod laws;
 mod moving;
+mod naming;
 mod reader;
+mod ready;
 mod resolving;
 #[cfg(test)]
 mod tests;
@@ -17,4 +19,5 @@ pub use dirty::Dirty;
 pub use graph::Graph;
 pub use laws::{dirt_law, height_law, items_law, rise_law};
 pub use reader::Reader;
+pub use ready::GraphReady;
 pub use resolving::{Resolved, resolve};
