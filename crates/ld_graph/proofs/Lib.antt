@@ -8,3 +8,4 @@ pub mod Turned
 pub mod MovedName
 pub mod Moves
 pub mod Named
+pub mod Readied

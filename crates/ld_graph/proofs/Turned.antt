@@ -65,7 +65,7 @@ module _ (file : FileId) (text : Text) where
       by false None at rest e = cc
       by false (Some k) at rest e = sym (ap (λ o. option_and_then (λ (one : FileId × Text). one.1) (slice_get (entry ∷ set_value (same_file file) known text) (unwrap_or o 0))) e) ∙ rest k at
 
-  id-set : (known : Known) (other : FileId) → id_of (set_value (same_file file) known text) other ≡ id_of known other
+  pub id-set : (known : Known) (other : FileId) → id_of (set_value (same_file file) known text) other ≡ id_of known other
   unfolding id_of
   id-set known other = ap (position (same_file other)) (files-set known)
 
@@ -81,7 +81,7 @@ module _ (file : FileId) (text : Text) where
       by None is some = cc
       by (Some id) is some = items-set known id is ∙ ap (λ o. with_names_at (items_of_known known) (unwrap_or o 0) (names_of text)) (sym is)
 
-  text-with : (known : Known) → IsSome (id_of known file) → text_of (set_value (same_file file) known text) file ≡ text
+  pub text-with : (known : Known) → IsSome (id_of known file) → text_of (set_value (same_file file) known text) file ≡ text
   text-with known is = by (id_of known file) refl is
     where
       by : (number : Option ℕ) → id_of known file ≡ number → IsSome number → text_of (set_value (same_file file) known text) file ≡ text
