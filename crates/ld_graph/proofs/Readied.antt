@@ -59,15 +59,15 @@ written-is known (Restore file lines) are = text-with file (Some lines) known ar
 written-is known (Drop file) are = text-with file None known are.0
 written-is known (Move from to) are = text-with to (text_of known from) (set_value (same_file from) known None) (subst (λ o. IsSome o) (sym (id-set from None known to)) are.1.0)
 
-pub editing_is : ItemsLaws → (known : Known) (edit : Edit) → AreKnown known (files_in edit) → (text texts : ℕ) (names : Names) (gone : Option ℕ) → text ≡ number_in known (written_file edit) → names ≡ names_of (written_text (text_of known) edit) → gone ≡ option_map (number_in known) (left_file edit) → texts ≡ length (items_of_known known) → Edits (record { text = text; names = names; gone = gone; texts = texts }) ≡ Edits (editing_of known edit)
-editing_is laws known edit are text texts names gone text-is names-is gone-is texts-is =
+pub editing_is : ItemsLaws → (known : Known) (edit : Edit) → AreKnown known (files_in edit) → (text texts : ℕ) (names : Names) (left : Option ℕ) → text ≡ number_in known (written_file edit) → names ≡ names_of (written_text (text_of known) edit) → left ≡ option_map (number_in known) (left_file edit) → texts ≡ length (items_of_known known) → Edits (record { text = text; names = names; gone = left; texts = texts }) ≡ Edits (editing_of known edit)
+editing_is laws known edit are text texts names left text-is names-is gone-is texts-is =
     let named : names ≡ names_of (text_of (edited known edit) (written_file edit)) = names-is ∙ ap names_of (sym (written-is known edit are)) in
     let many : texts ≡ length known = texts-is ∙ (laws.agree known).count in
     rw text-is (rw named (rw gone-is (rw many refl)))
 
 -- ---- what the graph is after it
 
-file_in_change : FileId → Change → FileId
+abbrev file_in_change : FileId → Change → FileId
 file_in_change file (Learns learning) = learning.file
 file_in_change file (Edits editing) = file
 
@@ -81,7 +81,7 @@ unfolding change_of
 unknown_is laws graph learning texts after = by after.ready after.change_is after.can
   where
     by : (ready : Ready) → Learns learning ≡ change_of after.before.known ready → CanCommit after.before ready → number_of graph.items learning.file ≡ None
-    by (Learn file text) is can = ap (λ items. number_of items learning.file) after.agrees ∙ (laws.agree after.before.known).number learning.file ∙ ap (λ change. id_of after.before.known (file_in_change file change)) is ∙ can.apt
+    by (Learn file text) is can = let none : id_of after.before.known file ≡ None = can.apt in ap (λ items. number_of items learning.file) after.agrees ∙ (laws.agree after.before.known).number learning.file ∙ ap (λ change. id_of after.before.known (file_in_change file change)) is ∙ none
     by (Apply edit room) is can = cc
 
 pub edit_is : ItemsLaws → (graph : Graph) (editing : Editing) (texts : Texts) → IsAfter graph (Edits editing) texts → IsEditOf graph.items editing
