@@ -1,8 +1,15 @@
 pub mod Listed
+pub mod Folders
 pub mod Heights
 pub mod FoundBy
 pub mod Dirt
 pub mod More
+pub mod Marked
+pub mod Written
+pub mod Linked
+pub mod Rising
+pub mod Referring
+pub mod Upward
 pub mod Agreed
 pub mod Turned
 pub mod MovedName

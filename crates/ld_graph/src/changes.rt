@@ -1,6 +1,7 @@
 // Changes for which all memory is taken.
 ghost use Rattle.std.specs.Prelude.{◌≡◌, ◌≤◌, IfOk, [], length, option_map};
 ghost use Rattle.std.specs.Vec.{vec_capacity};
+ghost use Rattle.ld_graph.specs.Inside.Linking.{names_listed};
 
 use crate::dirty::Dirty;
 use ld_names::{FileId, Name, TextId};
@@ -20,10 +21,13 @@ impl Model for Learning {
     ghost use Rattle.std.specs.Prelude.{◌≡◌, ◌≤◌, [], length, option_map};
     ghost use Rattle.std.specs.Vec.{vec_capacity};
     ghost use Rattle.ld_graph.specs.Seen.{Learning};
+    ghost use Rattle.ld_graph.specs.Inside.Linking.{names_listed};
 
     ghost Value = { Learning };
 
     ghost view = { λ learning. record { file = learning.file; names = option_map (λ names. names.items) learning.names } };
+
+    ghost invariant = { λ learning. (learning.room.items ≡ []) × (length (names_listed learning.names) ≤ vec_capacity learning.room) };
 }
 
 // A text that gets other names, or is absent; and another one that is absent then.
@@ -41,10 +45,13 @@ impl Model for Editing {
     ghost use Rattle.std.specs.Prelude.{◌≡◌, ◌≤◌, [], length, option_map};
     ghost use Rattle.std.specs.Vec.{vec_capacity};
     ghost use Rattle.ld_graph.specs.Seen.{Editing};
+    ghost use Rattle.ld_graph.specs.Inside.Linking.{names_listed};
 
     ghost Value = { Editing };
 
     ghost view = { λ editing. record { text = editing.text.0; names = option_map (λ names. names.items) editing.names; gone = option_map (λ id. id.0) editing.gone; texts = length editing.dirty } };
+
+    ghost invariant = { λ editing. (editing.room.items ≡ []) × (length (names_listed editing.names) ≤ vec_capacity editing.room) };
 }
 
 impl Learning {
@@ -88,6 +95,7 @@ impl Editing {
 // Memory for the keys of the names that there may be.
 fn room_for(alloc: Global, names: &Option<Vec<Name>>) -> Result<Vec<usize>, AllocError>
     ensures empty { IfOk result (λ room. room.items ≡ []) }
+    ensures room { IfOk result (λ room. length (names_listed names.now) ≤ vec_capacity room) }
 {
     match names {
         Some(names) => Vec::with_capacity(alloc, names.len()),
