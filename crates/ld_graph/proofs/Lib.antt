@@ -16,3 +16,4 @@ pub mod MovedName
 pub mod Moves
 pub mod Named
 pub mod Readied
+pub mod Clean

@@ -1,15 +1,16 @@
 -- What the items that known texts give a graph say of the texts, and what a change of the texts changes of them.
-use Rattle.std.specs.Prelude.{◌≡◌, ℕ, List, [], ◌∷◌, Option, None, length, option_map}
+use Rattle.std.specs.Prelude.{◌≡◌, ℕ, List, [], ◌∷◌, Option, Some, None, length, option_map}
+use Rattle.std.specs.List.{Contains}
 use Rattle.std.specs.Option.{is_some}
 use Rattle.ld_names.specs.declared.file.FileId.{FileId}
 use Rattle.ld_names.specs.declared.file.Folder.{Folder}
 use Rattle.ld_names.specs.Standing.{Found, Present, Absent, Unknown, Known, Text, find, known_map}
-use Rattle.ld_texts.specs.Editing.{AreKnown, files_in, refusal_of}
-use Rattle.ld_texts.specs.Known.{file_at as known_file, id_of, lines_at}
+use Rattle.ld_texts.specs.Editing.{AreKnown, edited, files_in, refusal_of}
+use Rattle.ld_texts.specs.Known.{AreDistinct, file_at as known_file, id_of, lines_at}
 use Rattle.ld_texts.specs.Learning.{IsApt, Learn, Ready, known_after}
 use Rattle.ld_texts.specs.declared.edit.Edit.{Edit}
 use Rattle.ld_graph.specs.Agreeing.{Change, Learns, Edits, change_of, editing_of, items_of_known, names_among}
-use Rattle.ld_graph.specs.Changing.{IsChanged, IsMore}
+use Rattle.ld_graph.specs.Changing.{IsChanged, IsDirty, IsMore}
 use Rattle.ld_graph.specs.Items.{Items, file_at, found, names_at, number_of, presence}
 use Rattle.ld_graph.specs.Seen.{IsEditOf, changed_by, items_edited, items_learnt}
 
@@ -57,3 +58,22 @@ pub record ItemsLaws : Type 0 where
   pub change : (known : Known) (ready : Ready) → IsApt known ready → ChangesItems known ready
   pub learning : LearningKeepsItems
   pub edits : EditsTexts
+
+-- ---- what an edit leaves outside its dirt
+
+-- a text is in the dirt of an edit of known texts
+abbrev pub IsDirtied : Known → Edit → ℕ → Type 0
+IsDirtied known edit text = IsDirty (items_of_known known) (items_of_known (edited known edit)) (changed_by (editing_of known edit)) text
+
+-- each name among the lines of a file of a folder finds what it found, which is outside the dirt too
+pub record FindsClean (known : Known) (edit : Edit) (folder : Folder) (lines : List (List ℕ)) : Type 0 where
+  pub finds : (name : List ℕ) → Contains (names_among lines) name → find (known_map (edited known edit)) folder name ≡ find (known_map known) folder name
+  pub clean : (name : List ℕ) (file : FileId) → Contains (names_among lines) name → find (known_map known) folder name ≡ Present file → (other : ℕ) × (id_of known file ≡ Some other) × (IsDirtied known edit other → ⊥)
+
+-- the text is the same, and its names find the same
+pub record StaysClean (known : Known) (edit : Edit) (text : ℕ) (file : FileId) : Type 0 where
+  pub same : known_map (edited known edit) file ≡ known_map known file
+  pub finds : (lines : List (List ℕ)) → lines_at known text ≡ Some lines → FindsClean known edit file.folder lines
+
+abbrev pub CleanTextsStay : Type 0
+CleanTextsStay = (known : Known) (edit : Edit) (text : ℕ) (file : FileId) → AreDistinct known → AreKnown known (files_in edit) → known_file known text ≡ Some file → (IsDirtied known edit text → ⊥) → StaysClean known edit text file

@@ -1,8 +1,8 @@
-ghost use Rattle.ld_graph.specs.AgreeingLaws.{ItemsLaws};
+ghost use Rattle.ld_graph.specs.AgreeingLaws.{CleanTextsStay, ItemsLaws};
 ghost use Rattle.ld_graph.specs.Laws.{DirtIsLeast, DirtIsOne, HeightsAreOne, HeightsRise, OthersStay};
 
-use ld_names::file_laws;
-use ld_texts::{learning_law, number_law};
+use ld_names::{file_laws, lookup_law};
+use ld_texts::{edit_law, learning_law, number_law};
 
 /// What meets the local equations is the height.
 pub fn height_law()
@@ -33,4 +33,16 @@ pub fn items_law()
 {
     number_law();
     learning_law();
+}
+
+/// A text outside the dirt of an edit is the same, and its names find the same, outside the dirt too.
+pub fn clean_law()
+    ensures { CleanTextsStay }
+{
+    number_law();
+    file_laws();
+    lookup_law();
+    edit_law();
+    items_law();
+    dirt_law();
 }
