@@ -1,5 +1,6 @@
 -- What the items of known texts say of the texts.
-use Rattle.std.proofs.Common.{◌≡◌, ◌<◌, ℕ, zero, suc, Bool, true, false, cond, List, [], ◌∷◌, length, map, Option, Some, None, ap, refl, sym, ◌∙◌, subst, option_and_then, option_map, position, slice_get, arith, tests}
+use Rattle.std.proofs.Common.{◌≡◌, ◌<◌, ℕ, zero, suc, Bool, true, false, cond, List, [], ◌∷◌, length, map, Option, Some, None, ap, refl, sym, ◌∙◌, subst, option_and_then, option_map, position, slice_get, unwrap_or, arith, tests}
+use Rattle.std.specs.List.{filter_map}
 use Rattle.std.specs.Option.{is_some}
 use Rattle.std.proofs.lemmas.List.{length-map}
 use Rattle.std.proofs.lemmas.Option.{slice_get-map}
@@ -10,7 +11,9 @@ use Rattle.ld_texts.specs.Known.{file_at as known_file, files_of as known_files,
 use Rattle.ld_texts.specs.Laws.{NumbersAgree}
 use Rattle.ld_graph.specs.Agreeing.{item_of, items_of_known, names_among, names_of}
 use Rattle.ld_graph.specs.AgreeingLaws.{ItemsAgree, number_found}
-use Rattle.ld_graph.specs.Items.{Item, file_at, files_of, first_present, found, here_or, names_at, number_of, numbers_of, presence, present_or}
+use Rattle.ld_graph.specs.Items.{Item, file_at, files_of, first_present, found, found_by, here_or, names_at, number_of, numbers_of, presence, present_or, web_of}
+use Rattle.ld_graph.specs.Web.{children_of}
+use Rattle.ld_graph.proofs.FoundBy.{children_is}
 
 pub files-is : (known : Known) → files_of (items_of_known known) ≡ known_files known
 unfolding items_of_known
@@ -51,6 +54,25 @@ pub count-is : (known : Known) → length (items_of_known known) ≡ length know
 unfolding items_of_known
 count-is known = length-map known item_of
 
+children-are : (known : Known) (id : ℕ) (file : FileId) (lines : List (List ℕ)) → known_file known id ≡ Some file → lines_at known id ≡ Some lines → children_of (web_of (items_of_known known)) id ≡ Some (filter_map (found (items_of_known known) file.folder) (names_among lines))
+unfolding known_file lines_at
+children-are known id file lines at stands =
+    children_is (items_of_known known) id ∙ ap (λ item. unwrap_or (option_map (found_by (items_of_known known)) item) None) (item-is known id) ∙ by (slice_get known id) at stands
+  where
+    by : (entry : Option (FileId × Text)) → option_map (λ (one : FileId × Text). one.0) entry ≡ Some file → option_and_then (λ (one : FileId × Text). one.1) entry ≡ Some lines → unwrap_or (option_map (found_by (items_of_known known)) (option_map item_of entry)) None ≡ Some (filter_map (found (items_of_known known) file.folder) (names_among lines))
+    by None first second = cc
+    by (Some (one, None)) first second = cc
+    by (Some (one, Some all)) first second = ap (λ f. Some (filter_map (found (items_of_known known) (unwrap_or f file).folder) (names_among all))) first ∙ ap (λ (ls : Text). Some (filter_map (found (items_of_known known) file.folder) (names_among (unwrap_or ls lines)))) second
+
+childless : (known : Known) (id : ℕ) → lines_at known id ≡ None → children_of (web_of (items_of_known known)) id ≡ None
+unfolding lines_at
+childless known id none = children_is (items_of_known known) id ∙ ap (λ item. unwrap_or (option_map (found_by (items_of_known known)) item) None) (item-is known id) ∙ by (slice_get known id) none
+  where
+    by : (entry : Option (FileId × Text)) → option_and_then (λ (one : FileId × Text). one.1) entry ≡ None → unwrap_or (option_map (found_by (items_of_known known)) (option_map item_of entry)) None ≡ None
+    by None none = refl
+    by (Some (one, None)) none = refl
+    by (Some (one, Some all)) none = cc
+
 module _ (agree : NumbersAgree) where
   present-step : (known : Known) (file : FileId) (id : ℕ) (behind : Found) (later : Option ℕ) → id_of known file ≡ Some id → later ≡ number_found known behind → (text : Text) → lines_at known id ≡ text → here_or (Some id) (presence (items_of_known known)) later ≡ number_found known (found_or file behind (Some text))
   present-step known file id behind later is same text stands = ap (λ now. present_or id now later) (presence-is known id ∙ ap (option_map (λ (one : FileId). is_some (lines_at known id))) (agree.file known file id is)) ∙ by text stands
@@ -77,4 +99,4 @@ module _ (agree : NumbersAgree) where
   found-is known from name = among-is known name (folders_of from)
 
   pub items_agree : (known : Known) → ItemsAgree known
-  items_agree known = record { count = count-is known; number = number-is known; file = file-is known; presence = presence-is known; names = names-is known; found = found-is known }
+  items_agree known = record { count = count-is known; number = number-is known; file = file-is known; presence = presence-is known; names = names-is known; found = found-is known; children = children-are known; childless = childless known }

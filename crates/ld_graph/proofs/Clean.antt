@@ -16,11 +16,11 @@ use Rattle.ld_texts.specs.declared.edit.Edit.TheVariants.{Set, Insert, Delete, N
 use Rattle.ld_graph.specs.Agreeing.{change_of, editing_of, items_of_known, names_among, number_in}
 use Rattle.ld_graph.specs.AgreeingLaws.{CleanTextsStay, FindsClean, IsDirtied, ItemsLaws, StaysClean, number_found}
 use Rattle.ld_graph.specs.Changing.{IsChanged, IsDirty, NamesText}
-use Rattle.ld_graph.specs.Items.{Item, Items, found, found_by, presence, web_of}
+use Rattle.ld_graph.specs.Items.{found, presence, web_of}
 use Rattle.ld_graph.specs.Laws.{OthersStay, OutsideDirt}
 use Rattle.ld_graph.specs.Seen.{changed_by}
 use Rattle.ld_graph.specs.Web.{Refers, children_of}
-use Rattle.ld_graph.proofs.FoundBy.{children_is, contains_found, file_is}
+use Rattle.ld_graph.proofs.FoundBy.{contains_found}
 use Rattle.ld_graph.proofs.Listed.{here, there}
 
 -- ---- the same look-ups
@@ -129,18 +129,9 @@ module _ (numbers : NumbersAgree) (files : IsFileEquality) (lookups : FindsExact
                 stable (is_some (lines_at known other)) (is_some (lines_at (edited known edit) other)) (λ differ. clean (inl ([], tt, inr (other, (λ e. differ (sym before ∙ e ∙ after)), names-text folder looks other is)))) in
             said (edited known edit) (Some other) ((edits known edit).0.id (file_in folder name) ∙ is) ∙ ap Some (sym same) ∙ sym (said known (Some other) is)
 
-    item-there : slice_get (items_of_known known) text ≡ Some (file, Some (names_among lines))
-    item-there = by (slice_get (items_of_known known) text) refl (sym (file_is (items_of_known known) text) ∙ (laws.agree known).file text ∙ at) ((laws.agree known).names text ∙ ap (option_map names_among) stands)
-      where
-        by : (item : Option Item) → slice_get (items_of_known known) text ≡ item → option_map (λ (one : Item). one.0) item ≡ Some file → option_and_then (λ (one : Item). one.1) (slice_get (items_of_known known) text) ≡ Some (names_among lines) → slice_get (items_of_known known) text ≡ Some (file, Some (names_among lines))
-        by None is first second = cc
-        by (Some (one, names)) is first second =
-            let names-are : names ≡ Some (names_among lines) = sym (ap (option_and_then (λ (it : Item). it.1)) is) ∙ second in
-            is ∙ ap (λ (f : Option FileId). Some (unwrap_or f file, names)) first ∙ ap (λ ns. Some (file, ns)) names-are
-
     refers : (other : ℕ) → found (items_of_known known) file.folder name ≡ Some other → Refers (web_of (items_of_known known)) text other
     refers other is =
-        subst (λ children. Contains (unwrap_or children []) other) (sym (children_is (items_of_known known) text ∙ ap (λ item. unwrap_or (option_map (found_by (items_of_known known)) item) None) item-there))
+        subst (λ children. Contains (unwrap_or children []) other) (sym ((laws.agree known).children text file lines at stands))
         (contains_found (found (items_of_known known) file.folder) (names_among lines) name other named is)
 
     find-clean : (target : FileId) → find (known_map known) file.folder name ≡ Present target → (other : ℕ) × (id_of known target ≡ Some other) × (IsDirtied known edit other → ⊥)

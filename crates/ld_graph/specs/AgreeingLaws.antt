@@ -1,6 +1,6 @@
 -- What the items that known texts give a graph say of the texts, and what a change of the texts changes of them.
 use Rattle.std.specs.Prelude.{◌≡◌, ℕ, List, [], ◌∷◌, Option, Some, None, length, option_map}
-use Rattle.std.specs.List.{Contains}
+use Rattle.std.specs.List.{Contains, filter_map}
 use Rattle.std.specs.Option.{is_some}
 use Rattle.ld_names.specs.declared.file.FileId.{FileId}
 use Rattle.ld_names.specs.declared.file.Folder.{Folder}
@@ -11,8 +11,9 @@ use Rattle.ld_texts.specs.Learning.{IsApt, Learn, Ready, known_after}
 use Rattle.ld_texts.specs.declared.edit.Edit.{Edit}
 use Rattle.ld_graph.specs.Agreeing.{Change, Learns, Edits, change_of, editing_of, items_of_known, names_among}
 use Rattle.ld_graph.specs.Changing.{IsChanged, IsDirty, IsMore}
-use Rattle.ld_graph.specs.Items.{Items, file_at, found, names_at, number_of, presence}
+use Rattle.ld_graph.specs.Items.{Items, file_at, found, names_at, number_of, presence, web_of}
 use Rattle.ld_graph.specs.Seen.{IsEditOf, changed_by, items_edited, items_learnt}
+use Rattle.ld_graph.specs.Web.{children_of}
 
 -- the number of the file that a look-up finds
 abbrev pub number_found : Known → Found → Option ℕ
@@ -27,6 +28,8 @@ pub record ItemsAgree (known : Known) : Type 0 where
   pub file : (id : ℕ) → file_at (items_of_known known) id ≡ known_file known id
   pub presence : (id : ℕ) → presence (items_of_known known) id ≡ option_map (λ file. is_some (lines_at known id)) (known_file known id)
   pub names : (id : ℕ) → names_at (items_of_known known) id ≡ option_map names_among (lines_at known id)
+  pub children : (id : ℕ) (file : FileId) (lines : List (List ℕ)) → known_file known id ≡ Some file → lines_at known id ≡ Some lines → children_of (web_of (items_of_known known)) id ≡ Some (filter_map (found (items_of_known known) file.folder) (names_among lines))
+  pub childless : (id : ℕ) → lines_at known id ≡ None → children_of (web_of (items_of_known known)) id ≡ None
   pub found : (from : Folder) (name : List ℕ) → found (items_of_known known) from name ≡ number_found known (find (known_map known) from name)
 
 -- the items after a change
