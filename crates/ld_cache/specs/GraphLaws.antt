@@ -30,7 +30,7 @@ pub record HeightsAgree (known : Known) : Type 0 where
 -- the target of a text is that by its lines, and a walk leads to it
 pub record TargetsAgree (known : Known) : Type 0 where
   pub same : (text : TextId) → target_of known text (file_at known text.0) ≡ (known_texts known).target text
-  pub reached : (text : TextId) → AreDistinct known → Reaches (known_web known) (λ other. other ≡ (target_of known text (file_at known text.0)).0) text.0
+  pub reached : (text : TextId) → Reaches (known_web known) (λ other. other ≡ (target_of known text (file_at known text.0)).0) text.0
 
 -- a known text that the dirt lacks
 abbrev pub is_clean : Known → List Bool → TextId → Bool
@@ -43,3 +43,9 @@ pub record CleanTextsAgree (known : Known) (edit : Edit) (dirty : List Bool) : T
 
 abbrev pub DirtKeepsOthers : Type 0
 DirtKeepsOthers = (known : Known) (edit : Edit) (dirty : List Bool) → AreDistinct known → AreKnown known (files_in edit) → ((text : TextId) → (is_dirty dirty text ≡ true) ↔ IsDirtied known edit text.0) → CleanTextsAgree known edit dirty
+
+-- where no file is known twice
+pub record GraphsAgree : Type 0 where
+  pub heights : (known : Known) → AreDistinct known → HeightsAgree known
+  pub targets : (known : Known) → AreDistinct known → TargetsAgree known
+  pub dirt : DirtKeepsOthers
