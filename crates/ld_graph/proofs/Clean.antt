@@ -13,7 +13,7 @@ use Rattle.ld_texts.specs.Laws.{NumbersAgree}
 use Rattle.ld_texts.specs.Learning.{Apply}
 use Rattle.ld_texts.specs.declared.edit.Edit.{Edit}
 use Rattle.ld_texts.specs.declared.edit.Edit.TheVariants.{Set, Insert, Delete, New, Restore, Drop, Move}
-use Rattle.ld_graph.specs.Agreeing.{change_of, editing_of, items_of_known, names_among, number_in}
+use Rattle.ld_graph.specs.Agreeing.{graph_change, editing_of, items_of_known, names_among, number_in}
 use Rattle.ld_graph.specs.AgreeingLaws.{CleanTextsStay, FindsClean, IsDirtied, ItemsLaws, StaysClean, number_found}
 use Rattle.ld_graph.specs.Changing.{IsChanged, IsDirty, NamesText}
 use Rattle.ld_graph.specs.Items.{found, presence, web_of}
@@ -55,7 +55,7 @@ stable true false not = absurd (not (λ e. cc))
 stable false true not = absurd (not (λ e. cc))
 
 edit-changes : ItemsLaws → (known : Known) (edit : Edit) → AreKnown known (files_in edit) → IsChanged (items_of_known known) (items_of_known (edited known edit)) (changed_by (editing_of known edit))
-unfolding change_of
+unfolding graph_change
 edit-changes laws known edit are = (laws.change known (Apply edit 0) are).changed
 
 module _ (numbers : NumbersAgree) (files : IsFileEquality) (known : Known) (distinct : AreDistinct known) where

@@ -12,7 +12,7 @@ use Rattle.ld_texts.specs.Learning.{Apply, CanCommit, edit_in, known_after, Lear
 use Rattle.ld_texts.specs.declared.edit.Edit.{Edit}
 use Rattle.ld_texts.specs.declared.edit.Edit.TheVariants.{Set, Insert, Delete, New, Restore, Drop, Move}
 use Rattle.ld_texts.specs.declared.edit.EditRefusal.{EditRefusal}
-use Rattle.ld_graph.specs.Agreeing.{Change, Edits, IsAfter, Learns, change_of, editing_of, items_of_known, left_file, names_of, number_in, written_file}
+use Rattle.ld_graph.specs.Agreeing.{GraphChange, Edits, IsAfter, Learns, graph_change, editing_of, items_of_known, left_file, names_of, number_in, written_file}
 use Rattle.ld_graph.specs.AgreeingLaws.{ItemsLaws, items_after}
 use Rattle.ld_graph.specs.Items.{Names, number_of}
 use Rattle.ld_graph.specs.Seen.{Editing, Graph, IsEditOf, Learning}
@@ -21,13 +21,13 @@ use Rattle.ld_graph.proofs.Turned.{id-set, text-with}
 
 -- ---- what is prepared
 
-pub edits_is : (known : Known) (ready : Ready) (edit : Edit) → edit_in ready ≡ Some edit → Edits (editing_of known edit) ≡ change_of known ready
-unfolding change_of
+pub edits_is : (known : Known) (ready : Ready) (edit : Edit) → edit_in ready ≡ Some edit → Edits (editing_of known edit) ≡ graph_change known ready
+unfolding graph_change
 edits_is known (Learn file text) edit is = cc
 edits_is known (Apply one room) edit is = ap (λ (e : Option Edit). Edits (editing_of known (unwrap_or e edit))) (sym is)
 
-pub learns_is : (known : Known) (ready : Ready) (file : FileId) → edit_in ready ≡ None → learnt_file ready ≡ Some file → Learns (record { file = file; names = names_of (learnt_lines ready) }) ≡ change_of known ready
-unfolding change_of
+pub learns_is : (known : Known) (ready : Ready) (file : FileId) → edit_in ready ≡ None → learnt_file ready ≡ Some file → Learns (record { file = file; names = names_of (learnt_lines ready) }) ≡ graph_change known ready
+unfolding graph_change
 learns_is known (Learn one text) file none is = ap (λ (f : Option FileId). Learns (record { file = unwrap_or f file; names = names_of text })) (sym is)
 learns_is known (Apply edit room) file none is = cc
 
@@ -67,28 +67,28 @@ editing_is laws known edit are text texts names left text-is names-is gone-is te
 
 -- ---- what the graph is after it
 
-abbrev file_in_change : FileId → Change → FileId
+abbrev file_in_change : FileId → GraphChange → FileId
 file_in_change file (Learns learning) = learning.file
 file_in_change file (Edits editing) = file
 
-pub after_is : ItemsLaws → (graph : Graph) (change : Change) (texts : Texts) → IsAfter graph change texts → items_after graph.items change ≡ items_of_known texts.known
+pub after_is : ItemsLaws → (graph : Graph) (change : GraphChange) (texts : Texts) → IsAfter graph change texts → items_after graph.items change ≡ items_of_known texts.known
 after_is laws graph change texts after =
     ap (λ items. items_after items change) after.agrees ∙ ap (items_after (items_of_known after.before.known)) after.change_is
     ∙ sym (ap items_of_known after.known_is ∙ (laws.change after.before.known after.ready after.can.apt).items)
 
 pub unknown_is : ItemsLaws → (graph : Graph) (learning : Learning) (texts : Texts) → IsAfter graph (Learns learning) texts → number_of graph.items learning.file ≡ None
-unfolding change_of
+unfolding graph_change
 unknown_is laws graph learning texts after = by after.ready after.change_is after.can
   where
-    by : (ready : Ready) → Learns learning ≡ change_of after.before.known ready → CanCommit after.before ready → number_of graph.items learning.file ≡ None
+    by : (ready : Ready) → Learns learning ≡ graph_change after.before.known ready → CanCommit after.before ready → number_of graph.items learning.file ≡ None
     by (Learn file text) is can = let none : id_of after.before.known file ≡ None = can.apt in ap (λ items. number_of items learning.file) after.agrees ∙ (laws.agree after.before.known).number learning.file ∙ ap (λ change. id_of after.before.known (file_in_change file change)) is ∙ none
     by (Apply edit room) is can = cc
 
 pub edit_is : ItemsLaws → (graph : Graph) (editing : Editing) (texts : Texts) → IsAfter graph (Edits editing) texts → IsEditOf graph.items editing
-unfolding change_of
+unfolding graph_change
 edit_is laws graph editing texts after = by after.ready after.change_is after.can
   where
-    by : (ready : Ready) → Edits editing ≡ change_of after.before.known ready → CanCommit after.before ready → IsEditOf graph.items editing
+    by : (ready : Ready) → Edits editing ≡ graph_change after.before.known ready → CanCommit after.before ready → IsEditOf graph.items editing
     by (Learn file text) is can = cc
     by (Apply edit room) is can =
         let same : editing ≡ editing_of after.before.known edit = cc in

@@ -16,7 +16,7 @@ use Rattle.ld_texts.specs.declared.edit.Edit.{Edit}
 use Rattle.ld_texts.specs.declared.edit.Edit.TheVariants.{Set, Insert, Delete, New, Restore, Drop, Move}
 use Rattle.ld_texts.specs.declared.edit.EditRefusal.{EditRefusal}
 use Rattle.ld_texts.specs.declared.edit.EditRefusal.TheVariants.{FileThere, NoFile}
-use Rattle.ld_graph.specs.Agreeing.{change_of, editing_of, item_of, items_of_known, left_file, names_of, number_in, written_file}
+use Rattle.ld_graph.specs.Agreeing.{graph_change, editing_of, item_of, items_of_known, left_file, names_of, number_in, written_file}
 use Rattle.ld_graph.specs.AgreeingLaws.{ChangesItems, EditsTexts, ItemsLaws, LearningKeepsItems, changed_in}
 use Rattle.ld_graph.specs.Changing.{IsChanged, IsMore}
 use Rattle.ld_graph.specs.Items.{Item, Items, Names, file_at, files_of, number_of, presence, with_names_at}
@@ -237,7 +237,7 @@ module _ (numbers : LearningNumbers) (known : Known) (file : FileId) (text : Tex
 -- ---- the laws
 
 changes : LearningNumbers → (known : Known) (ready : Ready) → IsApt known ready → ChangesItems known ready
-unfolding change_of learnt moved left
+unfolding graph_change learnt moved left
 changes numbers known (Learn file text) apt = record { items = items-learnt numbers known file text apt; changed = learnt-changes numbers known file text apt }
 changes numbers known (Apply (Set file line text) room) apt = let one = one-change known file (option_map (λ lines. slice_set lines (line - 1) text) (text_of known file)) apt.0 in record { items = one.items; changed = one.changed }
 changes numbers known (Apply (Insert file line text) room) apt = let one = one-change known file (option_map (λ lines. insert lines (line - 1) text) (text_of known file)) apt.0 in record { items = one.items; changed = one.changed }

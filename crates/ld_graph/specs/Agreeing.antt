@@ -40,9 +40,9 @@ Agrees graph texts = graph.items ≡ items_of_known texts.known
 -- ---- a change of a graph
 
 -- a file that is learnt, or texts that get other names
-pub data Change : Type 0 where
-  Learns : Learning → Change
-  Edits : Editing → Change
+pub data GraphChange : Type 0 where
+  Learns : Learning → GraphChange
+  Edits : Editing → GraphChange
 
 -- the file that is there after an edit with other lines, or is absent then; of a move, the one that gets the lines
 abbrev pub written_file : Edit → FileId
@@ -69,25 +69,25 @@ editing_of known edit =
     record { text = number_in known (written_file edit); names = names_of (text_of (edited known edit) (written_file edit)); gone = option_map (number_in known) (left_file edit); texts = length known }
 
 -- what a change of known texts changes of a graph that agrees with them
-unfoldable pub change_of : Known → Ready → Change
-change_of known (Learn file text) = Learns (record { file = file; names = names_of text })
-change_of known (Apply edit room) = Edits (editing_of known edit)
+unfoldable pub graph_change : Known → Ready → GraphChange
+graph_change known (Learn file text) = Learns (record { file = file; names = names_of text })
+graph_change known (Apply edit room) = Edits (editing_of known edit)
 
 -- the graph has the memory for the change
-abbrev pub HasRoom : Graph → Change → Type 0
+abbrev pub HasRoom : Graph → GraphChange → Type 0
 HasRoom graph (Learns learning) = HasRoomToLearn graph learning
 HasRoom graph (Edits editing) = HasRoomToEdit graph editing
 
 -- the texts are those with which the graph agrees, after the change
-pub record IsAfter (graph : Graph) (change : Change) (texts : Texts) : Type 0 where
+pub record IsAfter (graph : Graph) (change : GraphChange) (texts : Texts) : Type 0 where
   pub before : Texts
   pub ready : Ready
   pub agrees : Agrees graph before
   pub can : CanCommit before ready
-  pub change_is : change ≡ change_of before.known ready
+  pub change_is : change ≡ graph_change before.known ready
   pub known_is : texts.known ≡ known_after before.known ready
 
 -- the dirt of an edit, between the graph before and after it; of a learnt file it is not used
-abbrev pub HasDirt : Graph → Graph → Change → List Bool → Type 0
+abbrev pub HasDirt : Graph → Graph → GraphChange → List Bool → Type 0
 HasDirt old new (Learns learning) dirty = ⊤
 HasDirt old new (Edits editing) dirty = (text : TextId) → (is_dirty dirty text ≡ true) ↔ IsDirty old.items new.items (changed_by editing) text.0

@@ -9,7 +9,7 @@ use Rattle.ld_texts.specs.Editing.{AreKnown, edited, files_in, refusal_of}
 use Rattle.ld_texts.specs.Known.{AreDistinct, file_at as known_file, id_of, lines_at}
 use Rattle.ld_texts.specs.Learning.{IsApt, Learn, Ready, known_after}
 use Rattle.ld_texts.specs.declared.edit.Edit.{Edit}
-use Rattle.ld_graph.specs.Agreeing.{Change, Learns, Edits, change_of, editing_of, items_of_known, names_among}
+use Rattle.ld_graph.specs.Agreeing.{GraphChange, Learns, Edits, graph_change, editing_of, items_of_known, names_among}
 use Rattle.ld_graph.specs.Changing.{IsChanged, IsDirty, IsMore}
 use Rattle.ld_graph.specs.Items.{Items, file_at, found, names_at, number_of, presence, web_of}
 use Rattle.ld_graph.specs.Seen.{IsEditOf, changed_by, items_edited, items_learnt}
@@ -33,20 +33,20 @@ pub record ItemsAgree (known : Known) : Type 0 where
   pub found : (from : Folder) (name : List ℕ) → found (items_of_known known) from name ≡ number_found known (find (known_map known) from name)
 
 -- the items after a change
-abbrev pub items_after : Items → Change → Items
+abbrev pub items_after : Items → GraphChange → Items
 items_after items (Learns learning) = items_learnt items learning
 items_after items (Edits editing) = items_edited items editing
 
 -- the texts that a change changed
-abbrev pub changed_in : Items → Change → List ℕ
+abbrev pub changed_in : Items → GraphChange → List ℕ
 changed_in items (Learns learning) = length items ∷ []
 changed_in items (Edits editing) = changed_by editing
 
 -- a change of files that are known, or of one that is not where it is learnt, is that change of the items; and which of
 -- them it changes
 pub record ChangesItems (known : Known) (ready : Ready) : Type 0 where
-  pub items : items_of_known (known_after known ready) ≡ items_after (items_of_known known) (change_of known ready)
-  pub changed : IsChanged (items_of_known known) (items_of_known (known_after known ready)) (changed_in (items_of_known known) (change_of known ready))
+  pub items : items_of_known (known_after known ready) ≡ items_after (items_of_known known) (graph_change known ready)
+  pub changed : IsChanged (items_of_known known) (items_of_known (known_after known ready)) (changed_in (items_of_known known) (graph_change known ready))
 
 -- where a file is learnt all that was known stays
 abbrev pub LearningKeepsItems : Type 0

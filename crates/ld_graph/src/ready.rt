@@ -2,7 +2,7 @@ ghost use Rattle.std.specs.Prelude.{◌≡◌, None, IfOk, option_map};
 ghost use Rattle.std.specs.Option.{option_copied};
 ghost use Rattle.ld_texts.specs.Editing.{AreKnown, files_in, refusal_of};
 ghost use Rattle.ld_texts.specs.Learning.{CanCommit};
-ghost use Rattle.ld_graph.specs.Agreeing.{Agrees, Edits, HasDirt, HasRoom, IsAfter, Learns, change_of, editing_of, left_file, names_of, number_in, written_file};
+ghost use Rattle.ld_graph.specs.Agreeing.{Agrees, Edits, HasDirt, HasRoom, IsAfter, Learns, graph_change, editing_of, left_file, names_of, number_in, written_file};
 ghost use Rattle.ld_graph.specs.Seen.{KeepsGraph};
 
 use crate::changes::{Editing, Learning};
@@ -29,10 +29,10 @@ pub(crate) enum Prepared {
 }
 
 impl Model for GraphReady {
-    ghost use Rattle.ld_graph.specs.Agreeing.{Change};
+    ghost use Rattle.ld_graph.specs.Agreeing.{GraphChange};
     ghost use Rattle.ld_graph.specs.Inside.Naming.{change_in};
 
-    ghost Value = { Change };
+    ghost Value = { GraphChange };
 
     ghost view = { λ ready. change_in ready.change };
 }
@@ -48,7 +48,7 @@ impl Graph {
     ) -> Result<GraphReady, AllocError>
         requires can { CanCommit texts.now ready.now }
         requires agrees { Agrees self.old texts.now }
-        ensures change { IfOk result (λ change. change ≡ change_of texts.now.known ready.now) }
+        ensures change { IfOk result (λ change. change ≡ graph_change texts.now.known ready.now) }
         ensures room { IfOk result (HasRoom self.new) }
         ensures same { KeepsGraph self.old self.new }
     {

@@ -5,7 +5,7 @@ use Rattle.ld_names.specs.Standing.{Known, Text}
 use Rattle.ld_names.specs.declared.file.FileId.{FileId}
 use Rattle.ld_texts.specs.declared.edit.Edit.{Edit}
 use Rattle.ld_texts.specs.declared.edit.Edit.TheVariants.{Set, Insert, Delete, New, Restore, Drop, Move}
-use Rattle.ld_graph.specs.Agreeing.{Change, Edits, Learns}
+use Rattle.ld_graph.specs.Agreeing.{GraphChange, Edits, Learns}
 use Rattle.ld_graph.specs.declared.ready.Prepared.{Prepared}
 use Rattle.ld_graph.specs.declared.ready.Prepared.TheVariants.{Learn, Edit as Apply}
 
@@ -20,6 +20,6 @@ written_text texts (Drop file) = None
 written_text texts (Move from to) = texts from
 
 -- the change that is prepared
-abbrev pub change_in : Prepared → Change
+abbrev pub change_in : Prepared → GraphChange
 change_in (Learn learning dirty) = Learns learning
 change_in (Apply editing) = Edits editing
