@@ -54,7 +54,7 @@ stable false false not = refl
 stable true false not = absurd (not (λ e. cc))
 stable false true not = absurd (not (λ e. cc))
 
-edit-changes : ItemsLaws → (known : Known) (edit : Edit) → AreKnown known (files_in edit) → IsChanged (items_of_known known) (items_of_known (edited known edit)) (changed_by (editing_of known edit))
+pub edit-changes : ItemsLaws → (known : Known) (edit : Edit) → AreKnown known (files_in edit) → IsChanged (items_of_known known) (items_of_known (edited known edit)) (changed_by (editing_of known edit))
 unfolding graph_change
 edit-changes laws known edit are = (laws.change known (Apply edit 0) are).changed
 

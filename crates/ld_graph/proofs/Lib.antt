@@ -17,3 +17,4 @@ pub mod Moves
 pub mod Named
 pub mod Readied
 pub mod Clean
+pub mod Appeared

@@ -50,7 +50,7 @@ first-none (Some a) other is = cc
 pub fits_is : (max_weight : ℕ) (known : Known) (edit : Edit) → refusal_of max_weight known edit ≡ None → misfit (text_of known) edit ≡ None
 fits_is max_weight known edit is = first-none (misfit (text_of known) edit) _ is
 
-written-is : (known : Known) (edit : Edit) → AreKnown known (files_in edit) → text_of (edited known edit) (written_file edit) ≡ written_text (text_of known) edit
+pub written-is : (known : Known) (edit : Edit) → AreKnown known (files_in edit) → text_of (edited known edit) (written_file edit) ≡ written_text (text_of known) edit
 written-is known (Set file line text) are = text-with file (option_map (λ lines. slice_set lines (line - 1) text) (text_of known file)) known are.0
 written-is known (Insert file line text) are = text-with file (option_map (λ lines. insert lines (line - 1) text) (text_of known file)) known are.0
 written-is known (Delete file line) are = text-with file (option_map (λ lines. remove lines (line - 1)) (text_of known file)) known are.0

@@ -1,16 +1,20 @@
 -- What the items that known texts give a graph say of the texts, and what a change of the texts changes of them.
-use Rattle.std.specs.Prelude.{◌≡◌, ℕ, List, [], ◌∷◌, Option, Some, None, length, option_map}
+use Rattle.std.specs.Prelude.{◌≡◌, ◌⊎◌, ◌↔◌, ℕ, List, [], ◌∷◌, Option, Some, None, length, option_map}
 use Rattle.std.specs.List.{Contains, filter_map}
 use Rattle.std.specs.Option.{is_some}
 use Rattle.ld_names.specs.declared.file.FileId.{FileId}
 use Rattle.ld_names.specs.declared.file.Folder.{Folder}
+use Rattle.ld_names.specs.declared.file.TextId.{TextId}
 use Rattle.ld_names.specs.Standing.{Found, Present, Absent, Unknown, Known, Text, find, known_map}
-use Rattle.ld_texts.specs.Editing.{AreKnown, edited, files_in, refusal_of}
+use Rattle.ld_texts.specs.Editing.{AreKnown, edit_change, edited, files_in, refusal_of}
 use Rattle.ld_texts.specs.Known.{AreDistinct, file_at as known_file, id_of, lines_at}
 use Rattle.ld_texts.specs.Learning.{IsApt, Learn, Ready, known_after}
+use Rattle.ld_texts.specs.declared.change.Change.{Change}
+use Rattle.ld_texts.specs.declared.change.Turned.{Turned}
+use Rattle.ld_texts.specs.declared.change.Turned.TheVariants.{Altered, Appeared, Learnt, Went}
 use Rattle.ld_texts.specs.declared.edit.Edit.{Edit}
 use Rattle.ld_graph.specs.Agreeing.{GraphChange, Learns, Edits, graph_change, editing_of, items_of_known, names_among}
-use Rattle.ld_graph.specs.Changing.{IsChanged, IsDirty, IsMore}
+use Rattle.ld_graph.specs.Changing.{HasTurned, IsChanged, IsDirty, IsMore}
 use Rattle.ld_graph.specs.Items.{Items, file_at, found, names_at, number_of, presence, web_of}
 use Rattle.ld_graph.specs.Seen.{IsEditOf, changed_by, items_edited, items_learnt}
 use Rattle.ld_graph.specs.Web.{children_of}
@@ -80,3 +84,24 @@ pub record StaysClean (known : Known) (edit : Edit) (text : ℕ) (file : FileId)
 
 abbrev pub CleanTextsStay : Type 0
 CleanTextsStay = (known : Known) (edit : Edit) (text : ℕ) (file : FileId) → AreDistinct known → AreKnown known (files_in edit) → known_file known text ≡ Some file → (IsDirtied known edit text → ⊥) → StaysClean known edit text file
+
+-- ---- which files an edit turns
+
+-- a file that appeared, went or was learnt, of those that changed
+abbrev pub Turns : TextId × Turned → ℕ → Type 0
+Turns (id, Learnt) text = id.0 ≡ text
+Turns (id, Appeared) text = id.0 ≡ text
+Turns (id, Went) text = id.0 ≡ text
+Turns (id, Altered) text = ⊥
+
+abbrev pub TurnsToo : Option (TextId × Turned) → ℕ → Type 0
+TurnsToo None text = ⊥
+TurnsToo (Some one) text = Turns one text
+
+abbrev pub IsTurnedBy : Option Change → ℕ → Type 0
+IsTurnedBy None text = ⊥
+IsTurnedBy (Some change) text = Turns change.first text ⊎ TurnsToo change.second text
+
+-- the files that an edit turned are those of which its change says so
+abbrev pub EditsTurn : Type 0
+EditsTurn = (max_weight : ℕ) (known : Known) (edit : Edit) (text : ℕ) → AreDistinct known → AreKnown known (files_in edit) → refusal_of max_weight known edit ≡ None → HasTurned (items_of_known known) (items_of_known (edited known edit)) text ↔ IsTurnedBy (edit_change known edit) text

@@ -1,4 +1,4 @@
-ghost use Rattle.ld_graph.specs.AgreeingLaws.{CleanTextsStay, ItemsLaws};
+ghost use Rattle.ld_graph.specs.AgreeingLaws.{CleanTextsStay, EditsTurn, ItemsLaws};
 ghost use Rattle.ld_graph.specs.Laws.{DirtIsLeast, DirtIsOne, HeightsAreOne, HeightsRise, OthersStay};
 
 use ld_names::{file_laws, lookup_law};
@@ -45,4 +45,14 @@ pub fn clean_law()
     edit_law();
     items_law();
     dirt_law();
+}
+
+/// The files that an edit turned are those of which its change says that they appeared or went.
+pub fn turned_law()
+    ensures { EditsTurn }
+{
+    number_law();
+    file_laws();
+    edit_law();
+    items_law();
 }

@@ -26,7 +26,7 @@ mod up;
 
 pub use dirty::Dirty;
 pub use graph::Graph;
-pub use laws::{clean_law, dirt_law, height_law, items_law, rise_law};
+pub use laws::{clean_law, dirt_law, height_law, items_law, rise_law, turned_law};
 pub use reader::Reader;
 pub use ready::GraphReady;
 pub use resolving::{Resolved, resolve};
