@@ -5,11 +5,12 @@ use Rattle.std.proofs.lemmas.List.Sums.{sum_by-set}
 use Rattle.std.proofs.lemmas.Nat.{mul-add-lt}
 use Rattle.std.specs.List.{Contains}
 use Rattle.std.specs.Option.{option_map_or, unwrap_or}
-use Rattle.ld_graph.specs.Inside.Marking.{IsMarked, Marked, MarksMore}
+use Rattle.ld_graph.specs.Inside.Marking.{IsListed, IsMarked, Marked, MarksMore}
 use Rattle.ld_graph.specs.Inside.Rising.{AreBelow, AreRight, AreSettled, HasFloor, IsSettled, Raises, height_in, slack}
 use Rattle.ld_graph.specs.Web.{Refers, Web, children_of, height, over, over_children, tallest}
 use Rattle.ld_graph.proofs.Heights.{heights_are, none_is_too_low, over_mono, stays_below}
 use Rattle.ld_graph.proofs.Listed.{here, there}
+use Rattle.ld_graph.proofs.Marked.{on, only}
 
 -- ---- from each reference to the local equation
 
@@ -190,3 +191,19 @@ lowered_below web cap heights less marked listed on right low others text =
     (λ m. let z = low text (on text m) in omega arith)
     (λ e. ⊎_elim (λ l. let z = low text l in omega arith) (λ same. omega arith) (others text))
     (right text)
+
+-- ---- after an edit
+
+module _ (web : Web) (cap : ℕ) (heights less lifted : List ℕ) (marked : Marked) (listed : IsListed marked.marks marked.list) (right : (text : ℕ) → IsMarked marked text ⊎ (height_in heights text ≡ height web cap text)) (lowered : (text : ℕ) → Contains marked.list text ⊎ (height_in less text ≡ height_in heights text)) (others : (text : ℕ) → Contains marked.list text ⊎ (height_in lifted text ≡ height_in less text)) where
+  still_right : (text : ℕ) → Contains marked.list text ⊎ (height_in lifted text ≡ height web cap text)
+  still_right text = ⊎_elim (λ m. inl (on marked.marks marked.list text listed m)) (λ e. ⊎_elim inl (λ f. ⊎_elim inl (λ g. inr (g ∙ f ∙ e)) (others text)) (lowered text)) (right text)
+
+  pub all_floors : ((text : ℕ) → Contains marked.list text → HasFloor web cap lifted text) → (text : ℕ) → HasFloor web cap lifted text
+  all_floors floors text = ⊎_elim (floors text) (λ e some. let h = heights_are web cap text in let f = floor_over web cap (height web cap text) (height web cap) text (omega arith) some in omega arith) (still_right text)
+
+  pub all_settled : ((text child : ℕ) → Contains marked.list text → Refers web text child → Contains marked.list child ⊎ (min cap (suc (height_in lifted child)) ≤ height_in lifted text)) → AreSettled web cap lifted marked
+  all_settled settled text child r =
+      ⊎_elim
+      (λ c. ⊎_elim (λ d. inl (only marked.marks marked.list child listed d)) inr (settled text child c r))
+      (λ e. ⊎_elim (λ d. inl (only marked.marks marked.list child listed d)) (λ f. inr (let s = each_stays_below web cap (height_in lifted) text child r (omega arith) in omega arith)) (still_right child))
+      (still_right text)
