@@ -87,22 +87,24 @@ module _ (numbers : NumbersAgree) (files : IsFileEquality) (laws : ItemsLaws) (e
   altered : (edit : Edit) (are : AreKnown known (files_in edit)) (file : FileId) → IsSome (id_of known file) → changed_by (editing_of known edit) ≡ number_in known file ∷ [] → edit_change known edit ≡ turned known file Altered → is_some (text_of known file) ≡ is_some (text_of (edited known edit) file) → (text : ℕ) → HasTurned (items_of_known known) (items_of_known (edited known edit)) text ↔ IsTurnedBy (edit_change known edit) text
   altered edit are file there changed-is change-is same text =
       let number = some-of (id_of known file) there in
-      let change : edit_change known edit ≡ Some (record { first = (record { 0 = number.0 }, Altered); second = None }) = change-is ∙ ap (option_map (λ id. record { first = (record { 0 = id }, Altered); second = None })) number.1 in
-      ((λ has.
-        let c = only-one (number_in known file) text (subst (λ ids. Contains ids text) changed-is (turned-changed edit are text has)) in
-        let at : number.0 ≡ text = sym (number-at file number.0 number.1) ∙ c in
-        absurd (stays edit are file number.0 number.1 same (subst (λ id. HasTurned (items_of_known known) (items_of_known (edited known edit)) id) (sym at) has))),
-      (λ by. absurd (⊎_elim (λ no. no) (λ no. no) (subst (λ one. IsTurnedBy one text) change by))))
+      let change : edit_change known edit ≡ Some (record { first = (record { 0 = number.0 }, Altered); second = None }) = change-is ∙ ap (option_map (λ id. record { first = (record { 0 = id }, Altered); second = None })) number.1 in (
+        (λ has.
+            let c = only-one (number_in known file) text (subst (λ ids. Contains ids text) changed-is (turned-changed edit are text has)) in
+            let at : number.0 ≡ text = sym (number-at file number.0 number.1) ∙ c in
+            absurd (stays edit are file number.0 number.1 same (subst (λ id. HasTurned (items_of_known known) (items_of_known (edited known edit)) id) (sym at) has))),
+        (λ by. absurd (⊎_elim (λ no. no) (λ no. no) (subst (λ one. IsTurnedBy one text) change by))),
+      )
 
   -- of one that was not, or is not
   switched : (edit : Edit) (are : AreKnown known (files_in edit)) (file : FileId) (how : Turned) → ((id text : ℕ) → id ≡ text → Turns (record { 0 = id }, how) text) → ((id text : ℕ) → Turns (record { 0 = id }, how) text → id ≡ text) → IsSome (id_of known file) → changed_by (editing_of known edit) ≡ number_in known file ∷ [] → edit_change known edit ≡ turned known file how → is_some (text_of known file) ≡ not (is_some (text_of (edited known edit) file)) → (text : ℕ) → HasTurned (items_of_known known) (items_of_known (edited known edit)) text ↔ IsTurnedBy (edit_change known edit) text
   switched edit are file how to from there changed-is change-is differ text =
       let number = some-of (id_of known file) there in
-      let change : edit_change known edit ≡ Some (record { first = (record { 0 = number.0 }, how); second = None }) = change-is ∙ ap (option_map (λ id. record { first = (record { 0 = id }, how); second = None })) number.1 in
-      ((λ has.
-        let c = only-one (number_in known file) text (subst (λ ids. Contains ids text) changed-is (turned-changed edit are text has)) in
-        subst (λ one. IsTurnedBy one text) (sym change) (inl (to number.0 text (sym (number-at file number.0 number.1) ∙ c)))),
-      (λ by. ⊎_elim (λ at. subst (λ id. HasTurned (items_of_known known) (items_of_known (edited known edit)) id) (from number.0 text at) (turns edit are file number.0 number.1 differ)) (λ no. absurd no) (subst (λ one. IsTurnedBy one text) change by)))
+      let change : edit_change known edit ≡ Some (record { first = (record { 0 = number.0 }, how); second = None }) = change-is ∙ ap (option_map (λ id. record { first = (record { 0 = id }, how); second = None })) number.1 in (
+        (λ has.
+            let c = only-one (number_in known file) text (subst (λ ids. Contains ids text) changed-is (turned-changed edit are text has)) in
+            subst (λ one. IsTurnedBy one text) (sym change) (inl (to number.0 text (sym (number-at file number.0 number.1) ∙ c)))),
+        (λ by. ⊎_elim (λ at. subst (λ id. HasTurned (items_of_known known) (items_of_known (edited known edit)) id) (from number.0 text at) (turns edit are file number.0 number.1 differ)) (λ no. absurd no) (subst (λ one. IsTurnedBy one text) change by)),
+      )
 
   module _ (from to : FileId) (are : AreKnown known (files_in (Move from to))) (fits : misfit (text_of known) (Move from to) ≡ None) where
     from-there : is_some (text_of known from) ≡ true
@@ -136,13 +138,14 @@ module _ (numbers : NumbersAgree) (files : IsFileEquality) (laws : ItemsLaws) (e
         let second = some-of (id_of known to) are.1.0 in
         let change : edit_change known (Move from to) ≡ Some (record { first = (record { 0 = first.0 }, Went); second = Some (record { 0 = second.0 }, Appeared) }) = ap (λ o. move_change o (id_of known to)) first.1 ∙ ap (move_change (Some first.0)) second.1 in
         let went : is_some (text_of known from) ≡ not (is_some (text_of (edited known (Move from to)) from)) = from-there ∙ sym (ap (λ t. not (is_some t)) left-none) in
-        let came : is_some (text_of known to) ≡ not (is_some (text_of (edited known (Move from to)) to)) = to-not ∙ sym (ap (λ t. not (is_some t)) (written-is known (Move from to) are) ∙ ap not from-there) in
-        ((λ has.
-          subst (λ one. IsTurnedBy one text) (sym change)
-          (⊎_elim (λ e. inl (sym (number-at from first.0 first.1) ∙ e)) (λ e. inr (sym (number-at to second.0 second.1) ∙ e)) (two-of (number_in known from) (number_in known to) text (turned-changed (Move from to) are text has)))),
-        (λ by.
-          ⊎_elim (λ at. subst (λ id. HasTurned (items_of_known known) (items_of_known (edited known (Move from to))) id) at (turns (Move from to) are from first.0 first.1 went))
-          (λ at. subst (λ id. HasTurned (items_of_known known) (items_of_known (edited known (Move from to))) id) at (turns (Move from to) are to second.0 second.1 came)) (subst (λ one. IsTurnedBy one text) change by)))
+        let came : is_some (text_of known to) ≡ not (is_some (text_of (edited known (Move from to)) to)) = to-not ∙ sym (ap (λ t. not (is_some t)) (written-is known (Move from to) are) ∙ ap not from-there) in (
+          (λ has.
+              subst (λ one. IsTurnedBy one text) (sym change)
+              (⊎_elim (λ e. inl (sym (number-at from first.0 first.1) ∙ e)) (λ e. inr (sym (number-at to second.0 second.1) ∙ e)) (two-of (number_in known from) (number_in known to) text (turned-changed (Move from to) are text has)))),
+          (λ by.
+              ⊎_elim (λ at. subst (λ id. HasTurned (items_of_known known) (items_of_known (edited known (Move from to))) id) at (turns (Move from to) are from first.0 first.1 went))
+              (λ at. subst (λ id. HasTurned (items_of_known known) (items_of_known (edited known (Move from to))) id) at (turns (Move from to) are to second.0 second.1 came)) (subst (λ one. IsTurnedBy one text) change by)),
+        )
 
 pub edits_turn : NumbersAgree → IsFileEquality → ItemsLaws → EditLaws → EditsTurn
 edits_turn numbers files laws edits max_weight known (Set file line bytes) text distinct are fits = altered numbers files laws edits known distinct (Set file line bytes) are file are.0 refl refl (sym (ap is_some (written-is known (Set file line bytes) are) ∙ mapped (λ lines. slice_set lines (line - 1) bytes) (text_of known file))) text

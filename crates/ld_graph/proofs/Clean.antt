@@ -126,7 +126,7 @@ module _ (numbers : NumbersAgree) (files : IsFileEquality) (lookups : FindsExact
             let before = there-is known other (file_in folder name) found in
             let after = there-is (edited known edit) other (file_in folder name) ((edits known edit).0.file other ∙ found) in
             let same : is_some (lines_at known other) ≡ is_some (lines_at (edited known edit) other) =
-                stable (is_some (lines_at known other)) (is_some (lines_at (edited known edit) other)) (λ differ. clean (inl ([], tt, inr (other, (λ e. differ (sym before ∙ e ∙ after)), names-text folder looks other is)))) in
+            stable (is_some (lines_at known other)) (is_some (lines_at (edited known edit) other)) (λ differ. clean (inl ([], tt, inr (other, (λ e. differ (sym before ∙ e ∙ after)), names-text folder looks other is)))) in
             said (edited known edit) (Some other) ((edits known edit).0.id (file_in folder name) ∙ is) ∙ ap Some (sym same) ∙ sym (said known (Some other) is)
 
     refers : (other : ℕ) → found (items_of_known known) file.folder name ≡ Some other → Refers (web_of (items_of_known known)) text other
