@@ -18,3 +18,4 @@ pub mod Named
 pub mod Readied
 pub mod Clean
 pub mod Appeared
+pub mod Users
