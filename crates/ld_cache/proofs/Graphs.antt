@@ -1,6 +1,6 @@
 -- References, heights and targets by lines are those of the graph; and what the dirt lacks agrees.
 use Rattle.std.proofs.Common.{◌≡◌, ◌<◌, ◌++◌, ◌↔◌, ◌&&◌, ℕ, zero, suc, max, Bool, true, false, not, List, [], ◌∷◌, Option, Some, None, map, refl, ap, sym, subst, ◌∙◌, length, get_or, nat_lt, option_and_then, option_map, slice_get, unwrap_or, arith, tests}
-use Rattle.std.specs.Prelude.{option_to_list, ⊤}
+use Rattle.std.specs.Prelude.{option_to_list}
 use Rattle.std.specs.List.{Contains, cons_option, filter_map}
 use Rattle.std.specs.Option.{is_some}
 use Rattle.std.proofs.lemmas.Option.{slice_get-map}
@@ -25,9 +25,9 @@ use Rattle.ld_entry.specs.Agreement.{FindsSameFiles, FoundInside, MapsAgree}
 use Rattle.ld_graph.specs.Agreeing.{items_of_known, names_among}
 use Rattle.ld_graph.specs.AgreeingLaws.{CleanTextsStay, FindsClean, IsDirtied, ItemsLaws, StaysClean, number_found}
 use Rattle.ld_graph.specs.Dirt.{is_dirty}
-use Rattle.ld_graph.specs.Items.{Item, found, found_by as children_by}
+use Rattle.ld_graph.specs.Items.{found}
 use Rattle.ld_graph.specs.Moving.{target_of}
-use Rattle.ld_graph.specs.Web.{IsWalk, Reaches, Refers as RefersBy, children_of, end_of, height, over_children, tallest}
+use Rattle.ld_graph.specs.Web.{IsWalk, Refers as RefersBy, children_of, end_of, height, over_children, tallest}
 use Rattle.ld_cache.specs.GraphLaws.{CleanTextsAgree, GraphsAgree, HeightsAgree, TargetsAgree, is_clean, known_web}
 
 abbrev text_id : ℕ → TextId

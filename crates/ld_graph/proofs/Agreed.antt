@@ -1,5 +1,5 @@
 -- What the items of known texts say of the texts.
-use Rattle.std.proofs.Common.{◌≡◌, ◌<◌, ℕ, zero, suc, Bool, true, false, cond, List, [], ◌∷◌, length, map, Option, Some, None, ap, refl, sym, ◌∙◌, subst, option_and_then, option_map, position, slice_get, unwrap_or, arith, tests}
+use Rattle.std.proofs.Common.{◌≡◌, ℕ, List, [], ◌∷◌, length, map, Option, Some, None, ap, refl, sym, ◌∙◌, option_and_then, option_map, position, slice_get, unwrap_or, arith, tests}
 use Rattle.std.specs.List.{filter_map}
 use Rattle.std.specs.Option.{is_some}
 use Rattle.std.proofs.lemmas.List.{length-map}
@@ -9,7 +9,7 @@ use Rattle.ld_names.specs.declared.file.Folder.{Folder}
 use Rattle.ld_names.specs.Standing.{Found, Known, Text, file_in, find, find_among, folders_of, found_or, known_map, same_file}
 use Rattle.ld_texts.specs.Known.{file_at as known_file, files_of as known_files, id_of, lines_at}
 use Rattle.ld_texts.specs.Laws.{NumbersAgree}
-use Rattle.ld_graph.specs.Agreeing.{item_of, items_of_known, names_among, names_of}
+use Rattle.ld_graph.specs.Agreeing.{item_of, items_of_known, names_among}
 use Rattle.ld_graph.specs.AgreeingLaws.{ItemsAgree, number_found}
 use Rattle.ld_graph.specs.Items.{Item, file_at, files_of, first_present, found, found_by, here_or, names_at, number_of, numbers_of, presence, present_or, web_of}
 use Rattle.ld_graph.specs.Web.{children_of}

@@ -1,13 +1,13 @@
 -- The files that an edit turns are those of which its change says so.
-use Rattle.std.proofs.Common.{◌≡◌, ◌≢◌, ◌⊎◌, ◌↔◌, ◌-◌, ◌==◌, ℕ, Bool, true, false, not, cond, List, [], ◌∷◌, Option, Some, None, IsSome, ap, refl, sym, ◌∙◌, subst, inl, inr, ⊎_elim, option_and_then, option_map, slice_get, slice_set, unwrap_or, arith, tests}
+use Rattle.std.proofs.Common.{◌≡◌, ◌≢◌, ◌⊎◌, ◌↔◌, ◌-◌, ℕ, Bool, true, false, not, cond, [], ◌∷◌, Option, Some, None, IsSome, ap, refl, sym, ◌∙◌, subst, inl, inr, ⊎_elim, option_and_then, option_map, slice_set, unwrap_or, arith, tests}
 use Rattle.std.specs.List.{Contains, insert, list_all, remove}
 use Rattle.std.specs.Option.{is_none, is_some, option_or}
 use Rattle.ld_names.specs.Finding.{IsFileEquality}
 use Rattle.ld_names.specs.declared.file.FileId.{FileId}
 use Rattle.ld_names.specs.Standing.{Known, Text, known_map, same_file}
 use Rattle.ld_texts.specs.EditLaws.{EditLaws}
-use Rattle.ld_texts.specs.Editing.{AreKnown, edit_change, edited, files_in, misfit, is_block_text, move_change, refusal_of, refused_if, text_in, text_of, turned}
-use Rattle.ld_texts.specs.Known.{AreDistinct, file_at as known_file, id_of, lines_at}
+use Rattle.ld_texts.specs.Editing.{AreKnown, edit_change, edited, files_in, misfit, is_block_text, move_change, refused_if, text_in, text_of, turned}
+use Rattle.ld_texts.specs.Known.{AreDistinct, id_of, lines_at}
 use Rattle.ld_texts.specs.Laws.{NumbersAgree}
 use Rattle.ld_texts.specs.declared.change.Turned.{Turned}
 use Rattle.ld_texts.specs.declared.change.Turned.TheVariants.{Altered, Appeared, Went}
@@ -17,7 +17,7 @@ use Rattle.ld_texts.specs.declared.edit.EditRefusal.{EditRefusal}
 use Rattle.ld_texts.specs.declared.edit.EditRefusal.TheVariants.{BadLine, FileThere, NoFile}
 use Rattle.ld_graph.specs.Agreeing.{editing_of, items_of_known, number_in}
 use Rattle.ld_graph.specs.AgreeingLaws.{EditsTurn, IsTurnedBy, ItemsLaws, Turns}
-use Rattle.ld_graph.specs.Changing.{HasTurned, IsChanged}
+use Rattle.ld_graph.specs.Changing.{HasTurned}
 use Rattle.ld_graph.specs.Items.{Item, presence}
 use Rattle.ld_graph.specs.Seen.{changed_by}
 use Rattle.ld_graph.proofs.Clean.{edit-changes}

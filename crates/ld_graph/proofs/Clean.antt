@@ -1,9 +1,9 @@
 -- A text outside the dirt of an edit is the same, and its names find the same, outside the dirt.
-use Rattle.std.proofs.Common.{◌≡◌, ◌≢◌, ◌<◌, ◌||◌, ℕ, zero, suc, Bool, true, false, cond, List, [], ◌∷◌, Option, Some, None, IsSome, ap, refl, sym, ◌∙◌, subst, inl, inr, length, option_and_then, option_map, slice_get, unwrap_or, arith, tests}
-use Rattle.std.specs.List.{Contains, filter_map}
-use Rattle.std.specs.Option.{is_some, option_map_or}
+use Rattle.std.proofs.Common.{◌≡◌, ◌≢◌, ◌||◌, ℕ, Bool, true, false, List, [], ◌∷◌, Option, Some, None, ap, refl, sym, ◌∙◌, subst, inl, inr, option_map, unwrap_or, arith, tests}
+use Rattle.std.specs.List.{Contains}
+use Rattle.std.specs.Option.{is_some}
 use Rattle.ld_names.specs.Finding.{FindsExactly, IsFileEquality}
-use Rattle.ld_names.specs.Standing.{Absent, Found, Known, Map, Present, Text, Unknown, file_in, find, find_among, folders_of, found_or, known_map, same_file}
+use Rattle.ld_names.specs.Standing.{Found, Known, Map, Present, Text, file_in, find, find_among, folders_of, found_or, known_map, same_file}
 use Rattle.ld_names.specs.declared.file.FileId.{FileId}
 use Rattle.ld_names.specs.declared.file.Folder.{Folder}
 use Rattle.ld_texts.specs.EditLaws.{EditLaws}
@@ -15,11 +15,11 @@ use Rattle.ld_texts.specs.declared.edit.Edit.{Edit}
 use Rattle.ld_texts.specs.declared.edit.Edit.TheVariants.{Set, Insert, Delete, New, Restore, Drop, Move}
 use Rattle.ld_graph.specs.Agreeing.{graph_change, editing_of, items_of_known, names_among, number_in}
 use Rattle.ld_graph.specs.AgreeingLaws.{CleanTextsStay, FindsClean, IsDirtied, ItemsLaws, StaysClean, number_found}
-use Rattle.ld_graph.specs.Changing.{IsChanged, IsDirty, NamesText}
+use Rattle.ld_graph.specs.Changing.{IsChanged, NamesText}
 use Rattle.ld_graph.specs.Items.{found, presence, web_of}
 use Rattle.ld_graph.specs.Laws.{OthersStay, OutsideDirt}
 use Rattle.ld_graph.specs.Seen.{changed_by}
-use Rattle.ld_graph.specs.Web.{Refers, children_of}
+use Rattle.ld_graph.specs.Web.{Refers}
 use Rattle.ld_graph.proofs.FoundBy.{contains_found}
 use Rattle.ld_graph.proofs.Listed.{here, there}
 

@@ -1,5 +1,5 @@
 -- The name of a moved text's reference is the first of its names.
-use Rattle.std.proofs.Common.{◌≡◌, ◌+◌, ℕ, zero, suc, Bool, true, false, cond, List, [], ◌∷◌, Option, Some, None, map, refl, ap, sym, subst, ◌∙◌, option_and_then, slice_get, arith}
+use Rattle.std.proofs.Common.{◌≡◌, ◌+◌, ℕ, suc, Bool, true, false, cond, List, [], ◌∷◌, Option, Some, None, map, refl, ap, sym, ◌∙◌, option_and_then, slice_get, arith}
 use Rattle.std.specs.List.{cons_option, list_any}
 use Rattle.ld_names.specs.declared.file.Folder.{Folder}
 use Rattle.ld_line.specs.Moved.{has_moved_title, is_drawn, is_reference, moved_line, moved_name, moved_reference, name_in, name_on, only, references_from}

@@ -10,16 +10,13 @@ use Rattle.ld_names.specs.declared.file.FileId.{FileId}
 use Rattle.ld_names.specs.declared.file.Folder.{Folder}
 use Rattle.ld_names.specs.declared.file.TextId.{TextId}
 use Rattle.ld_line.specs.Moved.{is_part, last_moved, moved_name, moved_to, other_than, part_found, target, text_of}
-use Rattle.ld_line.specs.Part.{is_part_text}
 use Rattle.ld_texts.specs.Known.{AreDistinct, file_at, id_of, is_part_at, lines_at, moved_at}
 use Rattle.ld_texts.specs.Laws.{NumbersAgree}
 use Rattle.ld_graph.specs.Agreeing.{items_of_known, names_among}
-use Rattle.ld_graph.specs.AgreeingLaws.{ItemsAgree}
 use Rattle.ld_graph.specs.Inside.Moving.{last_of, moved_name_of, part_behind, part_named, part_only, unless_among}
 use Rattle.ld_graph.specs.Items.{names_at}
 use Rattle.ld_graph.specs.Moving.{target_of}
 use Rattle.ld_graph.specs.Resolving.{resolved, resolved_from}
-use Rattle.ld_graph.specs.declared.resolving.Resolved.{Resolved}
 use Rattle.ld_graph.specs.declared.resolving.Resolved.TheVariants.{Text as TextFound}
 use Rattle.ld_graph.proofs.Agreed.{items_agree}
 use Rattle.ld_graph.proofs.MovedName.{first-named}

@@ -1,16 +1,11 @@
 -- The names of lines, and what an edit leaves of them.
-use Rattle.std.proofs.Common.{◌≡◌, ◌+◌, ◌++◌, ◌-◌, ◌<◌, ◌≤◌, ℕ, suc, List, [], ◌∷◌, Option, Some, None, IsSome, ap, refl, sym, ◌∙◌, drop, length, option_map, slice_set, take, arith, tests}
+use Rattle.std.proofs.Common.{◌≡◌, ◌+◌, ◌++◌, ◌-◌, ◌<◌, ℕ, suc, List, [], ◌∷◌, ap, sym, ◌∙◌, drop, length, slice_set, take, arith, tests}
 use Rattle.std.specs.List.{remove}
 use Rattle.std.proofs.lemmas.List.{append_assoc, drop-drop, set_split}
 use Rattle.std.proofs.lemmas.List.Elements.{filter_map-append}
-use Rattle.ld_names.specs.Standing.{Known, Text}
 use Rattle.ld_line.specs.Moved.{name_in}
 use Rattle.ld_line.specs.Reading.{line_of}
-use Rattle.ld_texts.specs.Editing.{AreKnown, edited, files_in, text_of}
-use Rattle.ld_texts.specs.declared.edit.Edit.{Edit}
-use Rattle.ld_texts.specs.declared.edit.Edit.TheVariants.{Set, Insert, Delete, New, Restore, Drop, Move}
-use Rattle.ld_graph.specs.Agreeing.{names_among, names_of, written_file}
-use Rattle.ld_graph.specs.Inside.Naming.{written_text}
+use Rattle.ld_graph.specs.Agreeing.{names_among}
 
 names-append : (xs ys : List (List ℕ)) → names_among (xs ++ ys) ≡ names_among xs ++ names_among ys
 names-append xs ys = filter_map-append (λ line. name_in (line_of line)) xs ys

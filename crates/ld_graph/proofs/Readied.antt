@@ -1,17 +1,15 @@
 -- What a prepared change is, and what the graph is after it.
-use Rattle.std.proofs.Common.{◌≡◌, ◌+◌, ◌-◌, ◌<◌, ◌^◌, ℕ, List, [], ◌∷◌, Option, Some, None, IsSome, ap, refl, sym, subst, ◌∙◌, length, option_map, slice_set, unwrap_or, arith}
+use Rattle.std.proofs.Common.{◌≡◌, ◌-◌, ℕ, [], Option, Some, None, IsSome, ap, refl, sym, subst, ◌∙◌, length, option_map, slice_set, unwrap_or, arith}
 use Rattle.std.specs.List.{insert, remove}
 use Rattle.std.specs.Map.{set_value}
 use Rattle.std.specs.Option.{option_or}
-use Rattle.std.proofs.lemmas.List.{length_push}
-use Rattle.ld_names.specs.Standing.{Known, Text, same_file}
+use Rattle.ld_names.specs.Standing.{Known, same_file}
 use Rattle.ld_names.specs.declared.file.FileId.{FileId}
 use Rattle.ld_texts.specs.Editing.{AreKnown, edited, files_in, misfit, refusal_of, text_of}
 use Rattle.ld_texts.specs.Known.{id_of}
-use Rattle.ld_texts.specs.Learning.{Apply, CanCommit, edit_in, known_after, Learn, learnt_file, learnt_lines, Ready, Texts}
+use Rattle.ld_texts.specs.Learning.{Apply, CanCommit, edit_in, Learn, learnt_file, learnt_lines, Ready, Texts}
 use Rattle.ld_texts.specs.declared.edit.Edit.{Edit}
 use Rattle.ld_texts.specs.declared.edit.Edit.TheVariants.{Set, Insert, Delete, New, Restore, Drop, Move}
-use Rattle.ld_texts.specs.declared.edit.EditRefusal.{EditRefusal}
 use Rattle.ld_graph.specs.Agreeing.{GraphChange, Edits, IsAfter, Learns, graph_change, editing_of, items_of_known, left_file, names_of, number_in, written_file}
 use Rattle.ld_graph.specs.AgreeingLaws.{ItemsLaws, items_after}
 use Rattle.ld_graph.specs.Items.{Names, number_of}

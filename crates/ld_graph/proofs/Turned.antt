@@ -4,11 +4,11 @@ use Rattle.std.specs.List.{Contains, insert, remove}
 use Rattle.std.specs.Map.{set_value}
 use Rattle.std.specs.Option.{is_none, is_some, option_map_or, option_or}
 use Rattle.std.proofs.lemmas.Bool.{cases_Bool}
-use Rattle.std.proofs.lemmas.List.{length-map, map-append}
+use Rattle.std.proofs.lemmas.List.{map-append}
 use Rattle.std.proofs.lemmas.Map.{keys-set_value}
 use Rattle.ld_names.specs.declared.file.FileId.{FileId}
 use Rattle.ld_names.specs.Standing.{Known, Text, same_file}
-use Rattle.ld_texts.specs.Editing.{AreKnown, edited, files_in, overweight, refusal_of, refused_if, text_of}
+use Rattle.ld_texts.specs.Editing.{edited, overweight, refusal_of, refused_if, text_of}
 use Rattle.ld_texts.specs.Known.{file_at as known_file, files_of as known_files, id_of, lines_at}
 use Rattle.ld_texts.specs.Laws.{LearningNumbers, NumbersAgree}
 use Rattle.ld_texts.specs.Learning.{Apply, IsApt, Learn, Ready}
@@ -17,10 +17,10 @@ use Rattle.ld_texts.specs.declared.edit.Edit.TheVariants.{Set, Insert, Delete, N
 use Rattle.ld_texts.specs.declared.edit.EditRefusal.{EditRefusal}
 use Rattle.ld_texts.specs.declared.edit.EditRefusal.TheVariants.{FileThere, NoFile}
 use Rattle.ld_graph.specs.Agreeing.{graph_change, editing_of, item_of, items_of_known, left_file, names_of, number_in, written_file}
-use Rattle.ld_graph.specs.AgreeingLaws.{ChangesItems, EditsTexts, ItemsLaws, LearningKeepsItems, changed_in}
+use Rattle.ld_graph.specs.AgreeingLaws.{ChangesItems, EditsTexts, ItemsLaws}
 use Rattle.ld_graph.specs.Changing.{IsChanged, IsMore}
-use Rattle.ld_graph.specs.Items.{Item, Items, Names, file_at, files_of, number_of, presence, with_names_at}
-use Rattle.ld_graph.specs.Seen.{IsEditOf, changed_by, items_edited, items_learnt}
+use Rattle.ld_graph.specs.Items.{Item, Items, Names, files_of, number_of, presence, with_names_at}
+use Rattle.ld_graph.specs.Seen.{IsEditOf}
 use Rattle.ld_graph.proofs.Agreed.{count-is, files-is, items_agree, number-is}
 use Rattle.ld_graph.proofs.Listed.{here, there}
 

@@ -1,5 +1,5 @@
 // Where parts moved to.
-ghost use Rattle.std.specs.Prelude.{◌≡◌, ◌∷◌, ◌++◌, ◌==◌, [], length};
+ghost use Rattle.std.specs.Prelude.{◌≡◌, ◌∷◌, ◌++◌, ◌==◌, []};
 ghost use Rattle.std.specs.List.{list_any};
 ghost use Rattle.ld_texts.specs.Known.{file_at};
 ghost use Rattle.ld_graph.specs.Agreeing.{Agrees};

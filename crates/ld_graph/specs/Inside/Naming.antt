@@ -1,7 +1,7 @@
 -- The text that an edit writes, and changes for which all memory is taken.
-use Rattle.std.specs.Prelude.{◌-◌, ℕ, List, [], Option, Some, None, option_map, slice_set}
+use Rattle.std.specs.Prelude.{◌-◌, [], Some, None, option_map, slice_set}
 use Rattle.std.specs.List.{insert, remove}
-use Rattle.ld_names.specs.Standing.{Known, Text}
+use Rattle.ld_names.specs.Standing.{Text}
 use Rattle.ld_names.specs.declared.file.FileId.{FileId}
 use Rattle.ld_texts.specs.declared.edit.Edit.{Edit}
 use Rattle.ld_texts.specs.declared.edit.Edit.TheVariants.{Set, Insert, Delete, New, Restore, Drop, Move}
