@@ -19,3 +19,6 @@ pub mod Readied
 pub mod Clean
 pub mod Appeared
 pub mod Users
+pub mod Rewritten
+pub mod Keeping
+pub mod Naming

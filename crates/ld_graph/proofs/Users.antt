@@ -25,7 +25,7 @@ unwritten (slot ∷ slots) zero (suc other) new differs = refl
 unwritten (slot ∷ slots) (suc key) zero new differs = refl
 unwritten (slot ∷ slots) (suc key) (suc other) new differs = unwritten slots key other new (λ same. differs (ap suc same))
 
-same_or_not : (other key : ℕ) → (other ≡ key) ⊎ (other ≡ key → ⊥)
+pub same_or_not : (other key : ℕ) → (other ≡ key) ⊎ (other ≡ key → ⊥)
 same_or_not other key = ⊎_elim (λ yes. inl yes.1) (λ no. inr no.1) (eqb_tells other key)
 
 module _ (nodes : Nodes) (key : ℕ) (old new : Node) (is : get nodes key ≡ Some old) where

@@ -6,7 +6,7 @@ ghost use Rattle.ld_graph.specs.Items.{names_at, web_of};
 ghost use Rattle.ld_graph.specs.Web.{over, tallest};
 
 use crate::node::{Node, Text, looks_in};
-use ld_names::{Folder, Name};
+use ld_names::{Folder, Name, file_laws};
 use slab::Slab;
 use std::alloc::{AllocError, Global};
 use std::collections::BTreeMap;
@@ -127,6 +127,7 @@ impl Links {
         ensures spare { OnOk result (has_spare self.new name.now ≡ true) }
         ensures place { OnOk result (has_place self.new name.now ≡ true) }
     {
+        file_laws();
         if let Some(key) = self.keys.get(name) {
             return self.nodes.get_mut(*key).unwrap().reserve();
         }
