@@ -14,7 +14,7 @@ mod linking;
 mod links;
 mod marks;
 mod moving;
-mod naming;
+mod names;
 mod node;
 mod reader;
 mod ready;

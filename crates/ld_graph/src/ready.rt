@@ -9,7 +9,7 @@ use crate::changes::{Editing, Learning};
 use crate::dirty::Dirty;
 use crate::graph::Graph;
 use crate::laws::items_law;
-use crate::naming::{names_after, names_of};
+use crate::names::{names_after, names_of};
 use ld_names::{Bytes, FileId, TextId};
 use ld_texts::{Edit, Ready, Texts};
 use std::alloc::{AllocError, Global};

@@ -1,6 +1,6 @@
 use Rattle.std.proofs.Common.{◌≡◌, ◌++◌, length}
 use Rattle.ld_graph.specs.Agreeing.{names_among}
-use Rattle.ld_graph.proofs.naming.push_names.Given as goal
+use Rattle.ld_graph.proofs.names.push_names.Given as goal
 
 abbrev pub invariant-loop-line : goal.invariant-loop-line
 invariant-loop-line l = l.into.items ++ names_among l.rest ≡ l.initial.into.items ++ names_among l.lines
