@@ -17,7 +17,7 @@ use Rattle.ld_names.specs.Standing.{file_in}
 use Rattle.ld_names.specs.declared.file.FileId.{FileId}
 use Rattle.ld_names.specs.declared.file.Folder.{Folder}
 use Rattle.ld_graph.specs.Items.{Item, Items, file_at, names_at, number_of, numbers_of}
-use Rattle.ld_graph.specs.Inside.Linking.{IsKey, IsLinked, IsNode, Uses, file_of, item_of, items_of, keys_in}
+use Rattle.ld_graph.specs.Inside.Linking.{IsKey, IsLinked, IsNode, KeepsLinks, Linked, Uses, file_of, item_of, items_of, keys_in}
 use Rattle.ld_graph.specs.Inside.Nodes.{KeepsNames, Nodes, has_space, has_spare, key_of, name_at, name_of, names_with, number_in, numbers_at, passes, passes_at, users_at}
 use Rattle.ld_graph.specs.declared.node.Node.{Node}
 use Rattle.ld_graph.specs.declared.node.Text.{Text}
@@ -108,7 +108,7 @@ module _ (nodes : Nodes) (key : ℕ) (old new : Node) (is : get nodes key ≡ So
 
 pub alike_linked : (old new : Nodes) (keys : List (List ℕ × ℕ)) (texts : List Text) → KeepsNames old new → ((key : ℕ) → users_at new key ≡ users_at old key) → IsLinked old keys texts → IsLinked new keys texts
 alike_linked old new keys texts same users linked =
-    let items = items_same old new same texts in
+    let items = items_same old new same.names texts in
     record {
       keys_are = λ name key. ((λ is. same.names key ∙ (linked.keys_are name key).0 is), (λ is. (linked.keys_are name key).1 (sym (same.names key) ∙ is)));
       nodes_are = λ key name is.
@@ -120,8 +120,8 @@ alike_linked old new keys texts same users linked =
               (λ u. subst (λ xs. Contains xs user) (sym (users key)) ((node.users_are user).1 (subst (λ all. Uses all user name) items u))),
             );
           };
-      own = λ text one is. key_same old new same one.name (linked.own text one is);
-      named = λ text one key is has. key_same old new same key (linked.named text one key is has);
+      own = λ text one is. key_same old new same.names one.name (linked.own text one is);
+      named = λ text one key is has. key_same old new same.names key (linked.named text one key is has);
     }
 
 -- so where only the capacity is another
@@ -132,7 +132,7 @@ pub roomier_linked : (nodes new : Nodes) (capacity : ℕ) (keys : List (List ℕ
 roomier_linked nodes new capacity keys texts same linked = subst (λ (n : Nodes). IsLinked n keys texts) (sym same) (alike_linked nodes (record nodes { capacity = capacity }) keys texts (roomier nodes capacity) (λ key. refl) linked)
 
 pub roomier_items : (nodes new : Nodes) (capacity : ℕ) (texts : List Text) → new ≡ record nodes { capacity = capacity } → items_of new texts ≡ items_of nodes texts
-roomier_items nodes new capacity texts same = ap (λ (n : Nodes). items_of n texts) same ∙ items_same nodes (record nodes { capacity = capacity }) (roomier nodes capacity) texts
+roomier_items nodes new capacity texts same = ap (λ (n : Nodes). items_of n texts) same ∙ items_same nodes (record nodes { capacity = capacity }) (λ key. refl) texts
 
 pub roomier_passes : (nodes new : Nodes) (capacity : ℕ) (keys : List (List ℕ × ℕ)) (test : Node → Bool) (name : List ℕ) → new ≡ record nodes { capacity = capacity } → list_any (bytes_eq name) (names_with test nodes keys) ≡ true → list_any (bytes_eq name) (names_with test new keys) ≡ true
 roomier_passes nodes new capacity keys test name same has = ap (λ (n : Nodes). list_any (bytes_eq name) (names_with test n keys)) same ∙ named-is test (record nodes { capacity = capacity }) keys name ∙ sym (named-is test nodes keys name) ∙ has
@@ -278,3 +278,16 @@ module _ (equality : IsFileEquality) (nodes : Nodes) (keys : List (List ℕ × �
     pub further_place : (test : Node → Bool) → test node ≡ true → list_any (bytes_eq name) (names_with test new more) ≡ true
     further_place test passes_it =
         named-is test new more name ∙ ap (λ o. option_map_or (passes_at test new) o false) put_here ∙ ap (λ n. option_map_or test n false) updates.changed ∙ passes_it
+
+-- ---- one after another
+
+pub keeps_none : (links : Linked) → KeepsLinks links links
+keeps_none links = record { items = refl; room = omega arith; spares = λ name has. has; places = λ name has. has }
+
+pub keeps_more : (old mid new : Linked) → KeepsLinks old mid → KeepsLinks mid new → KeepsLinks old new
+keeps_more old mid new one two = record {
+  items = two.items ∙ one.items;
+  room = let a = one.room in let b = two.room in omega arith;
+  spares = λ name has. two.spares name (one.spares name has);
+  places = λ name has. two.places name (one.places name has);
+}

@@ -22,3 +22,5 @@ pub mod Users
 pub mod Rewritten
 pub mod Keeping
 pub mod Naming
+pub mod Added
+pub mod Preparing

@@ -28,18 +28,18 @@ same_names f g same (Some keys) = ap Some (map_same f g same keys)
 
 -- ---- where all names keep their keys, so do the items
 
-module _ (old new : Nodes) (same : KeepsNames old new) where
+module _ (old new : Nodes) (same : (key : ℕ) → name_at new key ≡ name_at old key) where
   pub names_same : (key : ℕ) → name_of new key ≡ name_of old key
-  names_same key = ap (λ name. unwrap_or name []) (same.names key)
+  names_same key = ap (λ name. unwrap_or name []) (same key)
 
-  item_same : (text : Text) → item_of new text ≡ item_of old text
+  pub item_same : (text : Text) → item_of new text ≡ item_of old text
   item_same text = ap₂ (λ name names. (record { folder = text.folder; name = name }, names)) (names_same text.name) (same_names (name_of new) (name_of old) names_same (keys_in text))
 
   pub items_same : (texts : List Text) → items_of new texts ≡ items_of old texts
   items_same texts = map_same (item_of new) (item_of old) item_same texts
 
   pub key_same : (key : ℕ) → IsKey old key → IsKey new key
-  key_same key is = (is.0, same.names key ∙ is.1)
+  key_same key is = (is.0, same key ∙ is.1)
 
 -- ---- the items with other names of one text
 
@@ -80,7 +80,7 @@ module _ (old new : Nodes) (same : KeepsNames old new) (texts : List Text) (text
 
   pub items_are : items_of new (set texts text two) ≡ with_names_at (items_of old texts) text names
   items_are =
-      items_same old new same (set texts text two) ∙ map-set (item_of old) texts text two ∙ ap (λ file. set (items_of old texts) text (file, names)) file_same ∙ sym (with_is (items_of old texts) text (item_of old one) names (item_at old texts text one at))
+      items_same old new same.names (set texts text two) ∙ map-set (item_of old) texts text two ∙ ap (λ file. set (items_of old texts) text (file, names)) file_same ∙ sym (with_is (items_of old texts) text (item_of old one) names (item_at old texts text one at))
 
   module _ (keys : List (List ℕ × ℕ)) (linked : IsLinked old keys texts) (own : (key : ℕ) → Contains (unwrap_or (keys_in two) []) key → IsKey old key) (users : (key user : ℕ) (name : List ℕ) → name_at old key ≡ Some name → Contains (users_at new key) user ↔ Uses (with_names_at (items_of old texts) text names) user name) where
     texts_at : (other : ℕ) (x : Text) → slice_get (set texts text two) other ≡ Some x → ((other ≡ text) × (x ≡ two)) ⊎ (slice_get texts other ≡ Some x)
@@ -99,13 +99,13 @@ module _ (old new : Nodes) (same : KeepsNames old new) (texts : List Text) (text
             numbers_are = λ folder. ap (λ numbers. number_in numbers folder) (same.numbers key) ∙ node.numbers_are folder ∙ ap (λ files. position (same_file (file_in folder name)) files) (sym (files_stay (items_of old texts) text (item_of old one) names (item_at old texts text one at)) ∙ sym (ap files_of items_are));
             users_are = λ user. subst (λ items. Contains (users_at new key) user ↔ Uses items user name) (sym items_are) (users key user name was);
           };
-      own = λ other x is. key_same old new same x.name (⊎_elim (λ here. subst (IsKey old) (sym name ∙ sym (ap (λ (t : Text). t.name) here.1)) (linked.own text one at)) (λ there. linked.own other x there) (texts_at other x is));
-      named = λ other x key is has. key_same old new same key (⊎_elim (λ here. own key (subst (λ (t : Text). Contains (unwrap_or (keys_in t) []) key) here.1 has)) (λ there. linked.named other x key there has) (texts_at other x is));
+      own = λ other x is. key_same old new same.names x.name (⊎_elim (λ here. subst (IsKey old) (sym name ∙ sym (ap (λ (t : Text). t.name) here.1)) (linked.own text one at)) (λ there. linked.own other x there) (texts_at other x is));
+      named = λ other x key is has. key_same old new same.names key (⊎_elim (λ here. own key (subst (λ (t : Text). Contains (unwrap_or (keys_in t) []) key) here.1 has)) (λ there. linked.named other x key there has) (texts_at other x is));
     }
 
 -- ---- keys and their names
 
-key_here : (nodes : Nodes) (keys : List (List ℕ × ℕ)) (texts : List Text) → IsLinked nodes keys texts → (key other : ℕ) (name : List ℕ) → name_at nodes key ≡ Some name → name_at nodes other ≡ Some name → other ≡ key
+pub key_here : (nodes : Nodes) (keys : List (List ℕ × ℕ)) (texts : List Text) → IsLinked nodes keys texts → (key other : ℕ) (name : List ℕ) → name_at nodes key ≡ Some name → name_at nodes other ≡ Some name → other ≡ key
 key_here nodes keys texts linked key other name is also = let e = sym ((linked.keys_are name other).1 also) ∙ (linked.keys_are name key).1 is in cc
 
 -- the names of keys have a name where the keys have its key

@@ -1,11 +1,11 @@
 -- Texts that refer by a name or no longer do.
-use Rattle.std.proofs.Common.{◌≡◌, ◌==◌, ◌<◌, ◌++◌, ◌⊎◌, ℕ, zero, suc, List, [], ◌∷◌, Option, Some, None, Bor, map, length, get_or, set, inl, inr, ⊎_elim, refl, sym, ap, ◌∙◌, subst, arith}
+use Rattle.std.proofs.Common.{◌≡◌, ◌==◌, ◌<◌, ◌++◌, ◌⊎◌, ℕ, zero, suc, List, [], ◌∷◌, Option, Some, None, Bor, MutBor, map, length, get_or, set, inl, inr, ⊎_elim, refl, sym, ap, ◌∙◌, subst, arith}
 use Rattle.std.proofs.lemmas.Bool.Decides.{eqb_tells}
 use Rattle.std.proofs.lemmas.List.Elements.{Contains-append_left, Contains-append_right, Contains-push_cases}
 use Rattle.std.specs.Prelude.{◌↔◌, false, true}
 use Rattle.std.specs.List.{Contains}
 use Rattle.std.proofs.lemmas.List.{map-append}
-use Rattle.std.specs.Option.{IsSome, option_copied, option_map, option_map_or}
+use Rattle.std.specs.Option.{IsSome, option_copied, option_copied_mut, option_map, option_map_or}
 use Rattle.slab.specs.Slab.{get, with_value}
 use Rattle.ld_graph.specs.Inside.Nodes.{AreKeysOf, CanAdd, CanAddAt, Forgets, KeepsNames, Learns, Nodes, has_spare, key_of, name_at, numbers_at, passes_at, users_at}
 use Rattle.ld_graph.specs.declared.node.Node.{Node}
@@ -39,7 +39,7 @@ module _ (nodes : Nodes) (key : ℕ) (old new : Node) (is : get nodes key ≡ So
   at_other other differs = unwritten nodes.slots key other new differs
 
   -- what is the same of both nodes is the same at each key
-  same_at : {A : Type 0} (f : Option Node → A) → f (Some new) ≡ f (Some old) → (other : ℕ) → f (get after other) ≡ f (get nodes other)
+  pub same_at : {A : Type 0} (f : Option Node → A) → f (Some new) ≡ f (Some old) → (other : ℕ) → f (get after other) ≡ f (get nodes other)
   same_at f same other =
       ⊎_elim
       (λ equal. ap (λ k. f (get after k)) equal ∙ ap f at_key ∙ same ∙ sym (ap f is) ∙ sym (ap (λ k. f (get nodes k)) equal))
@@ -141,3 +141,7 @@ copied_some (Some one) key is = search
 pub keys_more : (keys : List (List ℕ × ℕ)) (found : List ℕ) (names : List (List ℕ)) (key : ℕ) (name : List ℕ) → AreKeysOf keys found names → key_of keys name ≡ Some key → AreKeysOf keys (found ++ key ∷ []) (names ++ name ∷ [])
 keys_more keys found names key name are is =
     map-append Some found (key ∷ []) ∙ ap (λ front. front ++ Some key ∷ []) are ∙ ap (λ last. map (key_of keys) names ++ last ∷ []) (sym is) ∙ sym (map-append (key_of keys) names (name ∷ []))
+
+pub copied_mut_some : {X : Type 0} (found : Option (MutBor X)) (value : X) → option_copied_mut found ≡ Some value → IsSome found
+copied_mut_some None value is = cc
+copied_mut_some (Some one) value is = search

@@ -1,5 +1,5 @@
 -- Heights that rise until no reference calls for a greater one.
-use Rattle.std.specs.Prelude.{◌≡◌, ◌≢◌, ◌≤◌, ◌<◌, ◌-◌, ◌⊎◌, ℕ, suc, min, List, [], None, get_or, length, sum_by}
+use Rattle.std.specs.Prelude.{◌≡◌, ◌≢◌, ◌≤◌, ◌<◌, ◌-◌, ◌^◌, ◌⊎◌, ℕ, suc, min, List, [], None, get_or, length, sum_by}
 use Rattle.ld_graph.specs.Items.{Items, web_of}
 use Rattle.ld_graph.specs.Web.{Refers, Web, children_of, height}
 use Rattle.ld_graph.specs.Inside.Marking.{IsMarked, Marked}
@@ -41,6 +41,7 @@ AreRight web cap heights = (text : ℕ) → height_in heights text ≡ height we
 -- what a graph keeps beside its names: all heights, and no mark
 pub record IsKept (depth : ℕ) (items : Items) (heights : List ℕ) (marked : Marked) : Type 0 where
   pub deep : depth ≤ 64
+  pub few : length items < 2 ^ 32
   pub right : AreRight (web_of items) (suc depth) heights
   pub size : length heights ≡ length items
   pub marks : length marked.marks ≡ length items

@@ -43,7 +43,7 @@ returns-in-Some-clause-same c =
     let new = c.reserve.new.self in
     let e = c.reserve.ensures in
     let keeps : KeepsLinks (the_view c.self.inside) (the_view (record c.self.inside { nodes = with_value nodes key new })) = record {
-      items = items_same nodes (with_value nodes key new) (more_names nodes key old new (here c) e.name e.numbers) c.self.inside.texts.items;
+      items = items_same nodes (with_value nodes key new) (more_names nodes key old new (here c) e.name e.numbers).names c.self.inside.texts.items;
       room = omega arith;
       spares = passes_more has_spare nodes (with_value nodes key new) c.self.inside.keys.entries (more_passes nodes key old new (here c) has_spare e.keeps_spare);
       places = passes_more has_space nodes (with_value nodes key new) c.self.inside.keys.entries (more_passes nodes key old new (here c) has_space e.keeps_space);

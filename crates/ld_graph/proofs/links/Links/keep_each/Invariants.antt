@@ -5,5 +5,5 @@ use Rattle.ld_graph.proofs.links.Links.keep_each.Given as goal
 abbrev pub invariant-loop-name : goal.invariant-loop-name
 invariant-loop-name l = record {
   same : KeepsLinks l.fn.self l.self;
-  spares : (k : ℕ) (d : List ℕ) → k < l.name-index → has_spare l.self (get_or l.names k d) ≡ true;
+  spares : (k : ℕ) → k < l.name-index → (d : List ℕ) → has_spare l.self (get_or l.names k d) ≡ true;
 }
