@@ -8,7 +8,6 @@ use Rattle.ld_names.specs.Standing.{Absent, find, Found, Known, known_map, Prese
 use Rattle.ld_names.specs.declared.file.FileId.{FileId}
 use Rattle.ld_names.specs.declared.file.TextId.{TextId}
 use Rattle.ld_line.specs.Moved.{is_part, last_moved, moved_name, moved_to, name_on, other_than, part_found, target, text_of}
-use Rattle.ld_line.specs.Part.{is_part_text}
 use Rattle.ld_texts.specs.Known.{AreDistinct, file_at, id_of, is_part_at, lines_at, moved_at}
 use Rattle.ld_texts.specs.Laws.{NumbersAgree}
 use Rattle.ld_entry.specs.NumberedTexts.{found_from, known_files, known_texts, target_from, text_id_of}

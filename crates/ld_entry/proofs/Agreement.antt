@@ -8,7 +8,7 @@ use Rattle.ld_line.specs.declared.line.Line.{Line}
 use Rattle.ld_line.specs.declared.line.Line.TheVariants.{Org, Ref}
 use Rattle.ld_entry.proofs.Renaming.{all-renamed, heights-renamed, none-further}
 use Rattle.ld_entry.specs.Agreement.{Agree, AgreeAs, FindsSame, renamed_above, renamed_link, renamed_outcome, StandFor}
-use Rattle.ld_entry.specs.Answers.{answer, answer_of, left_below}
+use Rattle.ld_entry.specs.Answers.{answer, answer_of, left_below, outcome_counts}
 use Rattle.ld_entry.specs.Carrying.{Above, colour_above, nothing_above, Outcome}
 use Rattle.ld_entry.specs.Expansion.{expansion_of, neutral_expansion}
 use Rattle.ld_entry.specs.Laws.{AgreementLaw}
@@ -68,10 +68,11 @@ all-agree inside texts other agree left way text above within =
     ap (λ w. all_by_line left (context_of other w text above)) (sym (map-id way)) ∙ ap (λ a. all_by_line left (context_of other (map itself way) text a)) (sym (above-stays above)) ∙ all-renamed inside itself texts other (agree-itself inside texts other agree) left way text above (λ file in_file. ap (list_any (λ on. on.0 == file.0)) (map-id way)) within ∙ ap (λ o. map (map (renamed_outcome itself)) given ++ o) none ∙ append-nil (map (map (renamed_outcome itself)) given) ∙ map-stays (map (renamed_outcome itself)) (map-stays (renamed_outcome itself) outcome-stays) given
 
 pub agrees : AgreementLaw
-unfolding answer neutral_expansion itself
+unfolding answer neutral_expansion outcome_counts itself
 agrees = record {
   outcomes = all-agree;
   answers = λ inside texts other agree depth most root colour within. ap (λ lines. answer_of most (concatenation lines)) (all-agree inside texts other agree (left_below depth []) [] root (colour_above colour) within);
   expansions = λ inside texts other agree depth most way text within. ap (expansion_of most) (all-agree inside texts other agree (left_below depth way) way text nothing_above within);
+  counts = λ inside texts other agree depth root colour within. ap (map length) (all-agree inside texts other agree (left_below depth []) [] root (colour_above colour) within);
   heights = λ inside texts other agree bound text within. heights-renamed inside itself texts other (agree-itself inside texts other agree) bound text within;
 }

@@ -210,6 +210,10 @@ pub moved_cycle : moved_row.MovedCycle
 unfolding values
 moved_cycle = (refl, refl)
 
+pub moves_in_a_cycle : moved_row.MovesInACycle
+unfolding values
+moves_in_a_cycle = (refl, refl, refl)
+
 pub moves_of64 : moved_row.MovesOf64
 unfolding values
 moves_of64 = refl

@@ -1,5 +1,5 @@
 -- Among known texts, references lead to the part at which moves end.
-use Rattle.std.proofs.Common.{◌≡◌, ℕ, zero, suc, Bool, true, false, cond, List, [], ◌∷◌, ◌++◌, map, Option, Some, None, option_map, refl, ap, sym, ◌∙◌, subst, arith}
+use Rattle.std.proofs.Common.{◌≡◌, ◌≤◌, ◌<◌, ℕ, zero, suc, Bool, true, false, cond, List, [], ◌∷◌, ◌++◌, map, length, Option, Some, None, option_map, refl, ap, sym, ◌∙◌, subst, arith}
 use Rattle.std.specs.Prelude.{option_and_then, slice_get, unwrap_or}
 use Rattle.std.specs.List.{Contains, list_any}
 use Rattle.ld_names.specs.Finding.{FindsExactly, FindStays, IsFileEquality}
@@ -79,36 +79,36 @@ module _ (finds : FindsExactly) (stays : FindStays) (equality : IsFileEquality) 
 
   -- ---- All moves.
 
-  -- a file's number, to which references lead from a text
-  abbrev Leads : TextId → FileId → Type 0
-  Leads text file = (number : TextId) × IsNumber file number × ((rest : List TextId) × LeadsBy (known_texts known) rest text number)
+  -- a file's number, to which at most so many references lead from a text
+  abbrev Leads : ℕ → TextId → FileId → Type 0
+  Leads most text file = (number : TextId) × IsNumber file number × ((rest : List TextId) × LeadsBy (known_texts known) rest text number × (length rest ≤ most))
 
   abbrev onward : ℕ → List FileId → FileId → Option FileId → FileId
   onward more passed last next = elim next [ None ↦ last | Some file ↦ last_moved more (known_map known) (passed ++ file ∷ []) file ]
 
-  new-leads : (more : ℕ) (passed : List FileId) (last next : FileId) (text : TextId) → Leads text last → Leads text (last_moved more (known_map known) (passed ++ next ∷ []) next) → (has : Bool) → Leads text (onward more passed last (cond has None (Some next)))
+  new-leads : (more : ℕ) (passed : List FileId) (last next : FileId) (text : TextId) → Leads (suc more) text last → Leads (suc more) text (last_moved more (known_map known) (passed ++ next ∷ []) next) → (has : Bool) → Leads (suc more) text (onward more passed last (cond has None (Some next)))
   new-leads more passed last next text here further true = here
   new-leads more passed last next text here further false = further
 
-  last-leads : (more : ℕ) (passed : List FileId) (last : FileId) (text : TextId) → IsNumber last text → Leads text (last_moved more (known_map known) passed last)
-  last-leads zero passed last text number = (text, number, ([], refl))
+  last-leads : (more : ℕ) (passed : List FileId) (last : FileId) (text : TextId) → IsNumber last text → Leads more text (last_moved more (known_map known) passed last)
+  last-leads zero passed last text number = (text, number, ([], refl, omega arith))
   last-leads (suc more) passed last text number = by (moved_to (known_map known) last) refl (λ next. last-leads more (passed ++ next ∷ []) next)
     where
-      by : (next : Option FileId) → moved_to (known_map known) last ≡ next → ((next : FileId) (to : TextId) → IsNumber next to → Leads to (last_moved more (known_map known) (passed ++ next ∷ []) next)) → Leads text (onward more passed last (option_and_then (other_than passed) next))
-      by None moved further = (text, number, ([], refl))
+      by : (next : Option FileId) → moved_to (known_map known) last ≡ next → ((next : FileId) (to : TextId) → IsNumber next to → Leads more to (last_moved more (known_map known) (passed ++ next ∷ []) next)) → Leads (suc more) text (onward more passed last (option_and_then (other_than passed) next))
+      by None moved further = (text, number, ([], refl, omega arith))
       by (Some next) moved further =
           let move = move-refers text last next (numbered equality (known_files known) last text number) moved in
           let rest = further next move.0 move.1 in
-          new-leads more passed last next text (text, number, ([], refl)) (rest.0, rest.1, (move.0 ∷ rest.2.0, (move.2, rest.2.1))) (list_any (same_file next) passed)
+          new-leads more passed last next text (text, number, ([], refl, omega arith)) (rest.0, rest.1, (move.0 ∷ rest.2.0, (move.2, rest.2.1), omega (arith, rest.2.2))) (list_any (same_file next) passed)
 
 pub leads : FindsExactly → FindStays → IsFileEquality → NumbersAgree → TargetLaw
 unfolding target
 leads finds stays equality numbers known text distinct = by (slice_get (known_files known) text.0) refl
   where
-    by : (file : Option FileId) → slice_get (known_files known) text.0 ≡ file → (rest : List TextId) × LeadsBy (known_texts known) rest text (target_from (known_map known) (known_files known) text file)
-    by None at = ([], refl)
+    by : (file : Option FileId) → slice_get (known_files known) text.0 ≡ file → (rest : List TextId) × LeadsBy (known_texts known) rest text (target_from (known_map known) (known_files known) text file) × (length rest < 64)
+    by None at = ([], refl, omega arith)
     by (Some file) at =
         let number = number-of known file ∙ ap (option_map (λ n. let id : TextId = record { 0 = n } in id)) (numbers.number known file text.0 distinct (sym (files-at known text.0) ∙ at)) in
         let last = last-leads finds stays equality known 63 (file ∷ []) file text number in
         let is : target_from (known_map known) (known_files known) text (Some file) ≡ last.0 = ap (λ id. unwrap_or id text) last.1 in
-        (last.2.0, subst (LeadsBy (known_texts known) last.2.0 text) (sym is) last.2.1)
+        (last.2.0, subst (LeadsBy (known_texts known) last.2.0 text) (sym is) last.2.1, omega (arith, last.2.2))

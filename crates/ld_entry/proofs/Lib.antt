@@ -7,6 +7,7 @@ pub mod Heights
 pub mod Ways
 pub mod Reuse
 pub mod Lines
+pub mod Deep
 pub mod Links
 pub mod Counts
 pub mod Cuts

@@ -7,7 +7,7 @@ use Rattle.ld_bfc.specs.LineState.{next, state_before}
 use Rattle.ld_bfc.specs.declared.culling.State.{State}
 use Rattle.ld_entry.specs.Carrying.{Outcome}
 use Rattle.ld_entry.specs.Laws.{LineLaws}
-use Rattle.ld_entry.specs.Outcomes.{Context, Enter, line_outcomes, outcomes_from}
+use Rattle.ld_entry.specs.Outcomes.{all_by_line, Context, Enter, enter_with, line_outcomes, outcomes_by_line, outcomes_from}
 
 count_from : (enter : Enter) (context : Context) (state : State) (number : ℕ) (lines : List Line) → length (outcomes_from enter context state number lines) ≡ length lines
 count_from enter context state number [] = refl
@@ -16,6 +16,11 @@ count_from enter context state number (line ∷ lines) = ap suc (count_from ente
 -- what a line gives, by its number
 abbrev given : Enter → Context → Bool → List Line → ℕ → Line → List Outcome
 given enter context part whole number line = line_outcomes enter context (state_before part whole number) (record { text = context.text; line = number }) line
+
+by-line : (left : ℕ) (context : Context) → all_by_line left context ≡ outcomes_by_line (enter_with left) context
+unfolding all_by_line
+by-line zero context = refl
+by-line (suc left) context = refl
 
 place : (index : ℕ) → 1 + index ≡ index + 1
 place index = omega arith
@@ -41,6 +46,7 @@ module _ (states : StateLaws) where
   pub lines : LineLaws
   lines = record {
     count = λ enter context. count_from enter context _ 1 (context.texts.lines context.text);
+    all_lines = by-line;
     line = λ enter context index line here.
         let part = context.texts.is_part context.text in
         let whole = context.texts.lines context.text in

@@ -1,9 +1,9 @@
 -- Texts that agree under other numbers give the same, with these numbers in it.
-use Rattle.std.proofs.Common.{◌≡◌, ◌==◌, ◌||◌, ◌&&◌, ℕ, zero, suc, Bool, true, false, not, cond, List, [], ◌∷◌, ◌++◌, map, length, Option, Some, None, Result, Ok, Err, refl, ap, sym, ◌∙◌, arith}
-use Rattle.std.specs.Prelude.{option_map, option_to_list, slice_get}
+use Rattle.std.proofs.Common.{◌≡◌, ◌==◌, ◌||◌, ◌&&◌, ℕ, zero, suc, Bool, true, false, not, cond, List, [], ◌∷◌, ◌++◌, map, take, length, Option, Some, None, Result, Ok, Err, refl, ap, sym, ◌∙◌, arith}
+use Rattle.std.specs.Prelude.{if◌then◌else◌, nat_lt, option_map, option_to_list, slice_get}
 use Rattle.std.specs.List.{list_any}
 use Rattle.std.proofs.lemmas.Bool.{eq-eqb, eqb-true, ne_eqb}
-use Rattle.std.proofs.lemmas.List.{append-nil, length-map, map-append}
+use Rattle.std.proofs.lemmas.List.{append-nil, length-map, map-append, take-map}
 use Rattle.std.proofs.lemmas.List.Folds.{list_any-append}
 use Rattle.std.proofs.lemmas.Option.{slice_get-map}
 use Rattle.ld_names.specs.declared.file.TextId.{TextId}
@@ -18,9 +18,10 @@ use Rattle.ld_bfc.specs.declared.culling.State.{State}
 use Rattle.ld_colour.specs.Colour.{colour_of}
 use Rattle.ld_entry.proofs.Action.{map-concatenation}
 use Rattle.ld_entry.proofs.Ways.{same_id}
-use Rattle.ld_entry.specs.Agreement.{AgreeAs, renamed_above, renamed_answer, renamed_entry, renamed_fault, renamed_link, renamed_outcome, renamed_source, StandFor, StandsFor}
+use Rattle.ld_entry.specs.Agreement.{AgreeAs, renamed_above, renamed_answer, renamed_entry, renamed_expansion, renamed_fault, renamed_link, renamed_outcome, renamed_source, StandFor, StandsFor}
 use Rattle.ld_entry.specs.Answers.{answer, answer_of, entries_before, first_fault, left_below, outcome_counts, unless_too_many}
-use Rattle.ld_entry.specs.Carrying.{Above, above_of, at_points, beneath, carried_entry, colour_above, fault_at, Link, or_source, Outcome, through, through_link}
+use Rattle.ld_entry.specs.Carrying.{Above, above_of, at_points, beneath, carried_entry, colour_above, fault_at, Link, nothing_above, or_source, Outcome, through, through_link}
+use Rattle.ld_entry.specs.Expansion.{end_of, ends_behind, expansion_of, first_entries, neutral_expansion}
 use Rattle.ld_entry.specs.Heights.{found_among, height, tallest}
 use Rattle.ld_entry.specs.Laws.{RenamingLaw}
 use Rattle.ld_entry.specs.Learnt.{FindsInside}
@@ -231,8 +232,33 @@ module _ (rename : TextId → TextId) where
   counts-renamed [] = refl
   counts-renamed (line ∷ lines) = ap (λ n. n ∷ map length (map (map (renamed_outcome rename)) lines)) (length-map line (renamed_outcome rename)) ∙ ap (λ ns. length line ∷ ns) (counts-renamed lines)
 
+  -- ---- Expansions.
+
+  first-renamed : (most : ℕ) (outcomes : List Outcome) → first_entries most (map (renamed_outcome rename) outcomes) ≡ map (renamed_entry rename) (first_entries most outcomes)
+  first-renamed most outcomes = ap (take (suc most)) (entries-renamed outcomes) ∙ take-map (renamed_entry rename) (suc most) (entries_before outcomes)
+
+  end-of-renamed : (most : ℕ) (outcomes : List Outcome) → end_of most (map (renamed_outcome rename) outcomes) ≡ option_map (renamed_fault rename) (end_of most outcomes)
+  end-of-renamed most outcomes =
+      rw (entries-renamed outcomes, fault-renamed outcomes, length-map (entries_before outcomes) (renamed_entry rename)) (by (nat_lt most (length (entries_before outcomes))))
+    where
+      by : (many : Bool) → (if many then None else option_map (renamed_fault rename) (first_fault outcomes)) ≡ option_map (renamed_fault rename) (if many then None else first_fault outcomes)
+      by true = refl
+      by false = refl
+
+  ends-renamed : (most : ℕ) (before : List Outcome) (lines : List (List Outcome)) → ends_behind most (map (renamed_outcome rename) before) (map (map (renamed_outcome rename)) lines) ≡ ends_behind most before lines
+  ends-renamed most before [] = refl
+  ends-renamed most before (line ∷ lines) =
+      let one : map (renamed_outcome rename) before ++ map (renamed_outcome rename) line ≡ map (renamed_outcome rename) (before ++ line) = sym (map-append (renamed_outcome rename) before line) in
+      let count : length (first_entries most (map (renamed_outcome rename) (before ++ line))) ≡ length (first_entries most (before ++ line)) = ap length (first-renamed most (before ++ line)) ∙ length-map (first_entries most (before ++ line)) (renamed_entry rename) in
+      ap (λ o. length (first_entries most o) ∷ ends_behind most o (map (map (renamed_outcome rename)) lines)) one ∙ ap (λ n. n ∷ ends_behind most (map (renamed_outcome rename) (before ++ line)) (map (map (renamed_outcome rename)) lines)) count ∙ ap (λ ns. length (first_entries most (before ++ line)) ∷ ns) (ends-renamed most (before ++ line) lines)
+
+  expansion-renamed : (most : ℕ) (lines : List (List Outcome)) → expansion_of most (map (map (renamed_outcome rename)) lines) ≡ renamed_expansion rename (expansion_of most lines)
+  expansion-renamed most lines =
+      let whole : concatenation (map (map (renamed_outcome rename)) lines) ≡ map (renamed_outcome rename) (concatenation lines) = map-concatenation (renamed_outcome rename) lines in
+      rw (whole, first-renamed most (concatenation lines), end-of-renamed most (concatenation lines), ends-renamed most [] lines) refl
+
 pub renames : RenamingLaw
-unfolding answer outcome_counts
+unfolding answer outcome_counts neutral_expansion
 renames = record {
   outcomes = λ inside rename texts other agrees left text above within. whole-renamed inside rename texts other agrees left (all-renamed inside rename texts other agrees left) [] text above (λ file in_file. refl) within;
   answers = λ inside rename texts other agrees depth most root colour within.
@@ -242,5 +268,9 @@ renames = record {
       let left = left_below depth [] in
       let given = all_by_line left (context_of texts [] root (colour_above colour)) in
       ap (map length) (all-renamed inside rename texts other agrees left [] root (colour_above colour) (λ file in_file. refl) within ∙ ap (λ o. map (map (renamed_outcome rename)) given ++ o) (none-further (texts.lines root) (other.lines (rename root)) many) ∙ append-nil (map (map (renamed_outcome rename)) given)) ∙ counts-renamed rename given;
+  expansions = λ inside rename texts other agrees depth most text within many.
+      let left = left_below depth [] in
+      let given = all_by_line left (context_of texts [] text nothing_above) in
+      ap (expansion_of most) (all-renamed inside rename texts other agrees left [] text nothing_above (λ file in_file. refl) within ∙ ap (λ o. map (map (renamed_outcome rename)) given ++ o) (none-further (texts.lines text) (other.lines (rename text)) many) ∙ append-nil (map (map (renamed_outcome rename)) given)) ∙ expansion-renamed rename most given;
   heights = heights-renamed;
 }

@@ -89,4 +89,5 @@ module _ (finds : FindsExactly) (stays : FindStays) (equality : IsFileEquality) 
     outcomes = λ inside known shelf learnt. agrees.outcomes inside (known_texts known) (standing_texts known shelf) (agree inside known shelf learnt);
     answers = λ inside known shelf learnt. agrees.answers inside (known_texts known) (standing_texts known shelf) (agree inside known shelf learnt);
     expansions = λ inside known shelf learnt. agrees.expansions inside (known_texts known) (standing_texts known shelf) (agree inside known shelf learnt);
+    counts = λ inside known shelf learnt. agrees.counts inside (known_texts known) (standing_texts known shelf) (agree inside known shelf learnt);
   }

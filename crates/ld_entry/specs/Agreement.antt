@@ -11,6 +11,7 @@ use Rattle.ld_entry.specs.Learnt.{FindsInside}
 use Rattle.ld_entry.specs.NumberedTexts.{lines_of_file, NumberedTexts, text_id_of}
 use Rattle.ld_entry.specs.declared.entry.Entry.{Entry}
 use Rattle.ld_entry.specs.declared.entry.Entry.TheVariants.{Drawn, Part}
+use Rattle.ld_entry.specs.declared.entry.Expansion.{Expansion}
 use Rattle.ld_entry.specs.declared.entry.Fault.{Fault}
 use Rattle.ld_entry.specs.declared.entry.Source.{Source}
 
@@ -23,7 +24,7 @@ FindsSame inside texts other text (Ref word placement (Some name) ∷ lines) =
     (other.found text name ≡ texts.found text name) × FindsInside inside (texts.found text name) × FindsSame inside texts other text lines
 FindsSame inside texts other text (line ∷ lines) = FindsSame inside texts other text lines
 
--- the texts inside are the same, and find the same
+-- the texts inside are the same, have the same targets, and find the same
 pub record Agree (inside : TextId → Bool) (texts other : NumberedTexts) : Type 0 where
   pub lines : (text : TextId) → inside text ≡ true → other.lines text ≡ texts.lines text
   pub is_part : (text : TextId) → inside text ≡ true → other.is_part text ≡ texts.is_part text
@@ -44,7 +45,7 @@ FindsSameFiles inside texts other files folder (Ref word placement (Some name) �
     (find other folder name ≡ find texts folder name) × FoundInside inside files (find texts folder name) × FindsSameFiles inside texts other files folder lines
 FindsSameFiles inside texts other files folder (line ∷ lines) = FindsSameFiles inside texts other files folder lines
 
--- a text is of the same file, which has the same number and is the same, and whose references find the same files
+-- a text is of the same file, which has the same number and the same text, and whose references find the same files
 pub record IsSameText (inside : TextId → Bool) (texts other : Map) (files others : List FileId) (text : TextId) : Type 0 where
   pub file : FileId
   pub at : slice_get files text.0 ≡ Some file
@@ -83,9 +84,12 @@ abbrev pub renamed_answer : (TextId → TextId) → Result (List Entry) Fault �
 renamed_answer rename (Ok entries) = Ok (map (renamed_entry rename) entries)
 renamed_answer rename (Err fault) = Err (renamed_fault rename fault)
 
+abbrev pub renamed_expansion : (TextId → TextId) → Expansion → Expansion
+renamed_expansion rename expansion = record { entries = map (renamed_entry rename) expansion.entries; line_ends = expansion.line_ends; end = option_map (renamed_fault rename) expansion.end }
+
 -- The replacement of a line, in the text of the other number. It is the same line, but that in a reference another name
--- may stand, which finds the text of the other number, and that what an !LDRAW_ORG line says may differ; and what the
--- line's own name finds is inside.
+-- may stand, which finds the text of the other number, or nothing where the line's own name finds nothing, and that
+-- what an !LDRAW_ORG line says may differ; and what the line's own name finds is inside.
 abbrev pub StandsFor : (TextId → Bool) → (TextId → TextId) → NumberedTexts → NumberedTexts → TextId → Line → Line → Type 0
 StandsFor inside rename texts other text (Ref word placement (Some name)) replacement =
     (other_name : List ℕ) × (replacement ≡ Ref word placement (Some other_name)) × (other.found (rename text) other_name ≡ option_map rename (texts.found text name)) × FindsInside inside (texts.found text name)

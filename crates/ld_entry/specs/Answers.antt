@@ -43,7 +43,7 @@ answer_by most entries end = unless_too_many (slice_get entries most) entries en
 abbrev pub answer_of : ℕ → List Outcome → Result (List Entry) Fault
 answer_of most outcomes = answer_by most (entries_before outcomes) (first_fault outcomes)
 
--- how many files more a way may have behind a text
+-- how many files more may stand behind a text at the end of this way
 abbrev pub left_below : ℕ → List TextId → ℕ
 left_below depth way = depth - suc (length way)
 

@@ -35,7 +35,8 @@ IsWalk texts [] = ⊤
 IsWalk texts (text ∷ []) = ⊤
 IsWalk texts (text ∷ next ∷ rest) = Refers texts text next × IsWalk texts (next ∷ rest)
 
--- references lead from a text, over these texts, to another, which is the last of them
+-- references lead from a text, over these texts, to another, which is the last of them, or the text itself where there
+-- are none
 abbrev pub LeadsBy : NumberedTexts → List TextId → TextId → TextId → Type 0
 LeadsBy texts [] text other = text ≡ other
 LeadsBy texts (next ∷ rest) text other = Refers texts text next × LeadsBy texts rest next other

@@ -34,7 +34,7 @@ triangle text line = tri_to right false true Ccw text line
 
 -- ---- Low and high texts.
 
--- the model, the primitive, and a file that is absent; and on a cycle
+-- the model, the primitive, and a number that no file has; and on a cycle
 abbrev pub HeightsOfModels : Type 0
 HeightsOfModels =
     (height_in ordinary_model 32 0 ≡ 4) × (height_in ordinary_model 32 4 ≡ 1) × (height_in ordinary_model 32 5 ≡ 1) × (height_in cycle_texts 32 1 ≡ 33)
@@ -44,7 +44,7 @@ abbrev pub second_shows : Expansion
 second_shows =
     shows (Drawn Line2 false true Ccw Edge (at_line 2 1) (point (units 1) (pos 0) (pos 0) ∷ point (units 2) (pos 0) (pos 0) ∷ origin ∷ origin ∷ []) ∷ []) (1 ∷ []) None
 
--- under a way of one text it is low, and no text could stand below it more
+-- under a way of one text it is low, and under a longer one it would not be
 abbrev pub AtTheDepth : Type 0
 AtTheDepth =
     (height_in (chain 2 128) 3 1 ≡ 2) × (expansion_in (chain 2 128) 3 9 (0 ∷ []) 1 ≡ second_shows) × (expansion_in (chain 2 128) 3 9 [] 1 ≡ second_shows)
@@ -84,13 +84,13 @@ model_of lines = block (codes "m.ldr") (ref (codes "16 0 0 0") (codes "s.ldr") �
 abbrev pub ended_triangles : ℕ → List (List ℕ)
 ended_triangles count = replicate count (codes "3 16 0 0 0 1 0 0 0 1 0") ++ ref (codes "16 0 0 0") (codes "gone.dat") ∷ []
 
--- Where three entries are allowed, the fourth is the last, and no end is behind it; nor is there for what refers to the
--- text.
+-- Where three entries are allowed, the fourth is the last, and no end is behind it; nor is there one for what refers to
+-- the text.
 abbrev pub OneEntryMoreThanAllowed : Type 0
 OneEntryMoreThanAllowed =
     (expansion_in (triangles 5) 32 3 [] 0 ≡ shows (four_triangles 0) (1 ∷ 2 ∷ 3 ∷ 4 ∷ 4 ∷ []) None) × (expansion_in (model_of (ended_triangles 4)) 32 3 [] 1 ≡ shows (four_triangles 1) (1 ∷ 2 ∷ 3 ∷ 4 ∷ 4 ∷ []) None) × (expansion_in (model_of (ended_triangles 4)) 32 3 [] 0 ≡ shows (four_triangles 1) (4 ∷ []) None)
 
--- and of three the end is
+-- behind three entries the end stands
 abbrev pub AsManyEntriesAsAllowed : Type 0
 AsManyEntriesAsAllowed =
     expansion_in (model_of (ended_triangles 3)) 32 3 [] 0 ≡ shows (triangle 1 1 ∷ triangle 1 2 ∷ triangle 1 3 ∷ []) (3 ∷ []) (ends_with Missing 1 4)

@@ -1,5 +1,6 @@
 -- Laws of recursive expansion.
-use Rattle.std.specs.Prelude.{◌≡◌, ◌≤◌, ◌<◌, ◌+◌, ◌++◌, ◌⊎◌, ℕ, suc, Bool, true, All, List, [], ◌∷◌, map, min, length, sum, take, slice_get, Option, Some, None, Ok, Err, IfOk}
+use Rattle.std.specs.Prelude.{◌≡◌, ◌≤◌, ◌<◌, ◌+◌, ◌==◌, ◌++◌, ◌⊎◌, ℕ, suc, Bool, true, false, All, List, [], ◌∷◌, map, min, length, sum, take, slice_get, Option, Some, None, Ok, Err, IfOk}
+use Rattle.std.specs.List.{list_any}
 use Rattle.ld_names.specs.Finding.{IsThere}
 use Rattle.ld_names.specs.Standing.{Known, Map, Text}
 use Rattle.ld_names.specs.declared.file.FileId.{FileId}
@@ -12,24 +13,25 @@ use Rattle.ld_texts.specs.Known.{AreDistinct, id_of}
 use Rattle.ld_texts.specs.Reach.{wanted}
 use Rattle.ld_bfc.specs.LineState.{state_before}
 use Rattle.ld_bfc.specs.declared.culling.State.{State}
-use Rattle.ld_colour.specs.Colour.{is_lawful, under}
+use Rattle.ld_colour.specs.Colour.{colour_of, is_lawful, under}
 use Rattle.ld_colour.specs.declared.colour.Colour.{Colour}
 use Rattle.ld_colour.specs.declared.colour.Colour.TheVariants.{Code}
-use Rattle.ld_entry.specs.Agreement.{Agree, AgreeAs, MapsAgree, renamed_above, renamed_answer, renamed_outcome}
+use Rattle.ld_entry.specs.Agreement.{Agree, AgreeAs, MapsAgree, renamed_above, renamed_answer, renamed_expansion, renamed_outcome}
 use Rattle.ld_entry.specs.Answers.{answer, answer_by, answer_of, until_end, entries_before, first_fault, left_below, outcome_counts, running_sums}
-use Rattle.ld_entry.specs.Carrying.{Above, above_of, beneath, carried_entry, carried_outcome, nothing_above, Outcome}
+use Rattle.ld_entry.specs.Carrying.{Above, above_of, beneath, carried_entry, carried_outcome, fault_at, nothing_above, Outcome}
 use Rattle.ld_entry.specs.Expansion.{end_of, expansion_of, first_entries, neutral_expansion}
 use Rattle.ld_entry.specs.Heights.{found_by, height, IsLow, IsWalk, LeadsBy, Refers, tallest}
 use Rattle.ld_entry.specs.Lawful.{IsLawfulEntry, IsLawfulOutcome}
 use Rattle.ld_entry.specs.Learnt.{IsClosed, IsLearnt}
 use Rattle.ld_entry.specs.NumberedTexts.{known_texts, NumberedTexts, standing_texts, texts_over}
-use Rattle.ld_entry.specs.Outcomes.{all, all_by_line, concatenation, Context, context_of, Enter, found_outcomes, line_outcomes, outcomes_by_line, outer_of, part_outcomes}
+use Rattle.ld_entry.specs.Outcomes.{all, all_by_line, concatenation, Context, context_of, Enter, enter_with, found_outcomes, line_outcomes, outcomes_by_line, outer_of, part_outcomes}
 use Rattle.ld_entry.specs.declared.entry.Entry.{Entry}
 use Rattle.ld_entry.specs.declared.entry.Entry.TheVariants.{Drawn, Part}
 use Rattle.ld_entry.specs.declared.entry.Expansion.{Expansion}
 use Rattle.ld_entry.specs.declared.entry.Fault.{Fault}
 use Rattle.ld_entry.specs.declared.entry.Outer.{Outer}
 use Rattle.ld_entry.specs.declared.entry.Source.{Source}
+use Rattle.ld_entry.specs.declared.entry.What.TheVariants.{Cycle, TooDeep}
 
 -- ---- What stands above composes, and so does what becomes of entries below it.
 
@@ -41,7 +43,7 @@ pub record CarryLaws : Type 0 where
   pub nothing : (outcome : Outcome) → carried_outcome nothing_above outcome ≡ outcome
   -- references act one after another, the inner first
   pub composed : (outer inner : Above) (outcome : Outcome) → carried_outcome (beneath outer inner) outcome ≡ carried_outcome outer (carried_outcome inner outcome)
-  -- a colour of its own stays
+  -- a part entry of a code keeps it
   pub own_colour : (above : Above) (file : TextId) (code : ℕ) (source : Source) → carried_outcome above (Ok (Part file (Code code) source)) ≡ Ok (Part file (Code code) source)
 
 -- ---- What stands further out acts on each outcome alone.
@@ -124,6 +126,8 @@ pub record LineLaws : Type 0 where
   pub count : (enter : Enter) (context : Context) → length (outcomes_by_line enter context) ≡ length (context.texts.lines context.text)
   -- each is what its own line gives in the state of back face culling before that line
   pub line : (enter : Enter) (context : Context) (index : ℕ) (line : Line) → slice_get (context.texts.lines context.text) index ≡ Some line → slice_get (outcomes_by_line enter context) index ≡ Some (line_outcomes enter context (state_before (context.texts.is_part context.text) (context.texts.lines context.text) (index + 1)) (record { text = context.text; line = index + 1 }) line)
+  -- and all that a text gives is what its lines give, where what a reference enters may go one file less deep
+  pub all_lines : (left : ℕ) (context : Context) → all_by_line left context ≡ outcomes_by_line (enter_with left) context
 
 -- ---- Answers.
 
@@ -134,7 +138,8 @@ pub record CountLaw : Type 0 where
   -- together they are the entries of the answer
   pub whole : (texts : NumberedTexts) (depth most : ℕ) (root : TextId) (colour : Colour) (entries : List Entry) → answer texts depth most root colour ≡ Ok entries → sum (outcome_counts texts depth root colour) ≡ length entries
 
--- Where there is an answer, in whatever colour, the expansion of the root counts at its lines what they give together.
+-- Where there is an answer, in whatever colour, the line ends of the root's expansion count what the lines up to and
+-- with each give.
 abbrev pub LineEndsLaw : Type 0
 LineEndsLaw =
     (texts : NumberedTexts) (depth most : ℕ) (root : TextId) (colour : Colour) (entries : List Entry) → answer texts depth most root colour ≡ Ok entries → (neutral_expansion texts depth most [] root).line_ends ≡ running_sums 0 (outcome_counts texts depth root colour)
@@ -145,15 +150,56 @@ LineEndsLaw =
 abbrev pub ReachedLaw : Type 0
 ReachedLaw = (known : Known) (root : FileId) (id : ℕ) → AreDistinct known → id_of known root ≡ Some id → wanted known root ≡ None → IsLearnt known root id
 
--- Among known texts, references lead to the part at which moves end.
+-- Among known texts, fewer than 64 references lead from a text to the one at which its moves end.
 abbrev pub TargetLaw : Type 0
-TargetLaw = (known : Known) (text : TextId) → AreDistinct known → (rest : List TextId) × LeadsBy (known_texts known) rest text ((known_texts known).target text)
+TargetLaw = (known : Known) (text : TextId) → AreDistinct known → (rest : List TextId) × LeadsBy (known_texts known) rest text ((known_texts known).target text) × (length rest < 64)
 
--- Where nothing is wanted, the known texts give what the texts as they stand give, whatever the shelf has.
+-- In a set in which nothing is wanted, the known texts give what the texts as they stand give, whatever the shelf has.
 pub record StandingLaw : Type 0 where
   pub outcomes : (inside : TextId → Bool) (known : Known) (shelf : FileId → Text) → IsClosed inside known → (left : ℕ) (way : List TextId) (text : TextId) (above : Above) → inside text ≡ true → all_by_line left (context_of (standing_texts known shelf) way text above) ≡ all_by_line left (context_of (known_texts known) way text above)
   pub answers : (inside : TextId → Bool) (known : Known) (shelf : FileId → Text) → IsClosed inside known → (depth most : ℕ) (root : TextId) (colour : Colour) → inside root ≡ true → answer (standing_texts known shelf) depth most root colour ≡ answer (known_texts known) depth most root colour
   pub expansions : (inside : TextId → Bool) (known : Known) (shelf : FileId → Text) → IsClosed inside known → (depth most : ℕ) (way : List TextId) (text : TextId) → inside text ≡ true → neutral_expansion (standing_texts known shelf) depth most way text ≡ neutral_expansion (known_texts known) depth most way text
+  pub counts : (inside : TextId → Bool) (known : Known) (shelf : FileId → Text) → IsClosed inside known → (depth : ℕ) (root : TextId) (colour : Colour) → inside root ≡ true → outcome_counts (standing_texts known shelf) depth root colour ≡ outcome_counts (known_texts known) depth root colour
+
+-- ---- The way and the depth.
+
+-- the source of what a line gives, by the place of the line
+abbrev pub line_source : TextId → ℕ → Source
+line_source text index = record { text = text; line = index + 1 }
+
+-- the state of back face culling before a line, by the place of the line
+abbrev pub state_at : NumberedTexts → TextId → ℕ → State
+state_at texts text index = state_before (texts.is_part text) (texts.lines text) (index + 1)
+
+-- a file is among these
+abbrev pub is_in : List TextId → TextId → Bool
+is_in files file = list_any (λ other. other.0 == file.0) files
+
+-- the line is a reference whose name finds the file
+pub record IsReference (texts : NumberedTexts) (text : TextId) (index word : ℕ) (placement : Placement) (file : TextId) : Type 0 where
+  pub name : List ℕ
+  pub line : slice_get (texts.lines text) index ≡ Some (Ref word placement (Some name))
+  pub finds : texts.found text name ≡ Some file
+
+-- What a reference to a file that is there gives, where a way may have so many files. The way is that with the text.
+pub record DepthLaw : Type 0 where
+  -- Where the file is not on the way: while the way has fewer, the part entry, where one is due, and then what the file
+  -- gives behind this way, below this reference.
+  pub enters : (texts : NumberedTexts) (depth : ℕ) (way : List TextId) (text : TextId) (above : Above) (index word : ℕ) (placement : Placement) (file : TextId) → IsReference texts text index word placement file → is_in (way ++ text ∷ []) file ≡ false → length (way ++ text ∷ []) < depth → slice_get (all_by_line (left_below depth way) (context_of texts way text above)) index ≡ Some (part_outcomes (context_of texts way text above) (line_source text index) word file ++ all (left_below depth (way ++ text ∷ [])) (context_of texts (way ++ text ∷ []) file (beneath above (above_of (outer_of (state_at texts text index) (line_source text index) word placement)))))
+  -- where it has as many or more, the reference is too deep.
+  pub too_deep : (texts : NumberedTexts) (depth : ℕ) (way : List TextId) (text : TextId) (above : Above) (index word : ℕ) (placement : Placement) (file : TextId) → IsReference texts text index word placement file → is_in (way ++ text ∷ []) file ≡ false → depth ≤ length (way ++ text ∷ []) → slice_get (all_by_line (left_below depth way) (context_of texts way text above)) index ≡ Some (fault_at TooDeep (line_source text index) ∷ [])
+  -- A file on the way is a cycle, at every depth.
+  pub cycle : (texts : NumberedTexts) (depth : ℕ) (way : List TextId) (text : TextId) (above : Above) (index word : ℕ) (placement : Placement) (file : TextId) → IsReference texts text index word placement file → is_in (way ++ text ∷ []) file ≡ true → slice_get (all_by_line (left_below depth way) (context_of texts way text above)) index ≡ Some (fault_at Cycle (line_source text index) ∷ [])
+
+-- The part entry of a reference that enters a file:
+pub record PartLaw : Type 0 where
+  -- where the text that refers is no part and the file is one, it is of the text at which the file's moves end, in the
+  -- colour of the reference
+  pub entry : (context : Context) (source : Source) (word : ℕ) (file : TextId) → context.texts.is_part context.text ≡ false → context.texts.is_part file ≡ true → part_outcomes context source word file ≡ Ok (Part (context.texts.target file) (under (colour_of word) context.above.colour) source) ∷ []
+  -- and there is none in a part
+  pub in_part : (context : Context) (source : Source) (word : ℕ) (file : TextId) → context.texts.is_part context.text ≡ true → part_outcomes context source word file ≡ []
+  -- or of a file that is no part
+  pub of_no_part : (context : Context) (source : Source) (word : ℕ) (file : TextId) → context.texts.is_part file ≡ false → part_outcomes context source word file ≡ []
 
 -- ---- Heights and ways.
 
@@ -194,7 +240,8 @@ shown_by expansion = map Ok expansion.entries ++ at_end expansion.end
 pub record ReuseLaw : Type 0 where
   -- below nothing, cut,
   pub alone : (texts : NumberedTexts) (depth most : ℕ) (way : List TextId) (text : TextId) → IsWalk texts (way ++ text ∷ []) → IsLow texts depth way text → until_end most (all (left_below depth way) (context_of texts way text nothing_above)) ≡ shown_by (neutral_expansion texts depth most [] text)
-  -- and, behind the part entry and carried, below a reference that enters it, whatever stands before and behind that
+  -- and what a reference gives that enters it from a text below nothing: the part entry, where one is due, then this
+  -- expansion carried, then its end. It is the same up to a cut, whatever stands before and behind.
   pub entered : (texts : NumberedTexts) (depth most left : ℕ) (way : List TextId) (text file : TextId) (state : State) (source : Source) (word : ℕ) (placement : Placement) (before behind : List Outcome) → left_below depth way ≡ suc left → IsWalk texts ((way ++ text ∷ []) ++ file ∷ []) → IsLow texts depth (way ++ text ∷ []) file → until_end most (before ++ (found_outcomes (Some (λ inner. all left inner)) (context_of texts way text nothing_above) state source word placement (Some file) ++ behind)) ≡ until_end most (before ++ ((part_outcomes (context_of texts way text nothing_above) source word file ++ map (carried_outcome (above_of (outer_of state source word placement))) (shown_by (neutral_expansion texts depth most [] file))) ++ behind))
 
 -- ---- Agreement.
@@ -204,18 +251,20 @@ pub record AgreementLaw : Type 0 where
   pub outcomes : (inside : TextId → Bool) (texts other : NumberedTexts) → Agree inside texts other → (left : ℕ) (way : List TextId) (text : TextId) (above : Above) → inside text ≡ true → all_by_line left (context_of other way text above) ≡ all_by_line left (context_of texts way text above)
   pub answers : (inside : TextId → Bool) (texts other : NumberedTexts) → Agree inside texts other → (depth most : ℕ) (root : TextId) (colour : Colour) → inside root ≡ true → answer other depth most root colour ≡ answer texts depth most root colour
   pub expansions : (inside : TextId → Bool) (texts other : NumberedTexts) → Agree inside texts other → (depth most : ℕ) (way : List TextId) (text : TextId) → inside text ≡ true → neutral_expansion other depth most way text ≡ neutral_expansion texts depth most way text
+  pub counts : (inside : TextId → Bool) (texts other : NumberedTexts) → Agree inside texts other → (depth : ℕ) (root : TextId) (colour : Colour) → inside root ≡ true → outcome_counts other depth root colour ≡ outcome_counts texts depth root colour
   pub heights : (inside : TextId → Bool) (texts other : NumberedTexts) → Agree inside texts other → (bound : ℕ) (text : TextId) → inside text ≡ true → height bound other text ≡ height bound texts text
 
--- So do the texts of two maps that say the same of the files inside.
+-- The texts of two maps that say the same of the files of a set that no reference leaves agree on it.
 abbrev pub MapsLaw : Type 0
 MapsLaw = (inside : TextId → Bool) (texts other : Map) (files others : List FileId) → MapsAgree inside texts other files others → Agree inside (texts_over texts files) (texts_over other others)
 
--- Under other numbers they give the same, with these numbers in it.
+-- Texts that agree under other numbers give, each by itself, the same with these numbers in the place of theirs,
 pub record RenamingLaw : Type 0 where
   pub outcomes : (inside : TextId → Bool) (rename : TextId → TextId) (texts other : NumberedTexts) → AgreeAs inside rename texts other → (left : ℕ) (text : TextId) (above : Above) → inside text ≡ true → all left (context_of other [] (rename text) (renamed_above rename above)) ≡ map (renamed_outcome rename) (all left (context_of texts [] text above))
   pub answers : (inside : TextId → Bool) (rename : TextId → TextId) (texts other : NumberedTexts) → AgreeAs inside rename texts other → (depth most : ℕ) (root : TextId) (colour : Colour) → inside root ≡ true → answer other depth most (rename root) colour ≡ renamed_answer rename (answer texts depth most root colour)
-  -- and line by line, where there are as many
+  -- and line by line, where both have as many lines
   pub counts : (inside : TextId → Bool) (rename : TextId → TextId) (texts other : NumberedTexts) → AgreeAs inside rename texts other → (depth : ℕ) (root : TextId) (colour : Colour) → inside root ≡ true → length (other.lines (rename root)) ≡ length (texts.lines root) → outcome_counts other depth (rename root) colour ≡ outcome_counts texts depth root colour
+  pub expansions : (inside : TextId → Bool) (rename : TextId → TextId) (texts other : NumberedTexts) → AgreeAs inside rename texts other → (depth most : ℕ) (text : TextId) → inside text ≡ true → length (other.lines (rename text)) ≡ length (texts.lines text) → neutral_expansion other depth most [] (rename text) ≡ renamed_expansion rename (neutral_expansion texts depth most [] text)
   pub heights : (inside : TextId → Bool) (rename : TextId → TextId) (texts other : NumberedTexts) → AgreeAs inside rename texts other → (bound : ℕ) (text : TextId) → inside text ≡ true → height bound other (rename text) ≡ height bound texts text
 
 -- ---- Lawful entries.

@@ -15,7 +15,8 @@ abbrev pub FindsInside : (TextId → Bool) → Option TextId → Type 0
 FindsInside inside None = ⊤
 FindsInside inside (Some text) = inside text ≡ true
 
--- No reference among the lines of a text leaves the set, and none comes to a folder of which its name is not known.
+-- No reference among the lines of a text leaves the set, and none comes to a folder of which it isn't known whether it
+-- has the name.
 abbrev pub WantsNothing : (TextId → Bool) → Known → TextId → FileId → List Line → Type 0
 WantsNothing inside known text file [] = ⊤
 WantsNothing inside known text file (Ref word placement (Some name) ∷ lines) =

@@ -45,8 +45,8 @@ MovedPart =
 abbrev pub moved_block : List ℕ → List (List ℕ)
 moved_block name = (codes "0 ~Moved to " ++ name) ∷ codes "0 !LDRAW_ORG Unofficial_Part" ∷ ref (codes "16 0 0 0") name ∷ []
 
--- Moves lead on along references. A text that is no part ends them, and so does a part that has no such title, a second
--- reference, or a drawn line.
+-- Moves lead on along references. A text that is no part ends them, and so does a part without such a title, with a
+-- second reference, or with a drawn line.
 abbrev pub moves : Known
 moves =
     part (codes "a") (moved_to (codes "b")) ∷ part (codes "b") (moved_to (codes "c")) ∷ part (codes "c") certified_tri ∷ block (codes "d") (moved_block (codes "e")) ∷ block (codes "e") certified_tri ∷ part (codes "f") (ref (codes "16 0 0 0") (codes "a") ∷ moved_to (codes "a")) ∷ part (codes "g") (moved_to (codes "a") ++ ref (codes "16 0 0 0") (codes "b") ∷ []) ∷ part (codes "h") (moved_to (codes "a") ++ certified_tri) ∷ part (codes "i") (moved_to (codes "gone")) ∷ block (codes "j") (moved_block (codes "b")) ∷ []
@@ -67,6 +67,13 @@ cycle_of_moves =
 abbrev pub MovedCycle : Type 0
 MovedCycle =
     (answer_in cycle_of_moves 0 ≡ faulty Cycle 2 2) × (expansion_in cycle_of_moves 32 9 [] 0 ≡ shows (part_at (Code 4) 2 0 1 ∷ []) (1 ∷ []) (ends_with Cycle 2 2))
+
+-- of three, no text counts twice, so that the moves of the first end at the last
+abbrev pub cycle_of_three : Known
+cycle_of_three = part (codes "a") (moved_to (codes "b")) ∷ part (codes "b") (moved_to (codes "c")) ∷ part (codes "c") (moved_to (codes "a")) ∷ []
+
+abbrev pub MovesInACycle : Type 0
+MovesInACycle = (target_in cycle_of_three 0 ≡ 2) × (target_in cycle_of_three 1 ≡ 0) × (target_in cycle_of_three 2 ≡ 1)
 
 -- parts, each but the last of which moved to the next; their names are bytes from this one on
 abbrev pub moved_chain : ℕ → ℕ → Known

@@ -58,8 +58,8 @@ outer_of state source word placement =
 abbrev pub context_below : Context → Outer → TextId → Context
 context_below context outer file = context_of context.texts (way_with_text context) file (beneath context.above (above_of outer))
 
--- A part text is an entry of its own where the text that refers to it is none. The entry is of the part at which moves
--- end; what the text itself gives comes behind it.
+-- A part text is an entry of its own where the text that refers to it is none. The entry is of the text at which its
+-- moves end; what the part text gives comes behind it.
 abbrev pub part_outcomes : Context → Source → ℕ → TextId → List Outcome
 part_outcomes context source word file =
     if not (context.texts.is_part context.text) && context.texts.is_part file then carried_entry context.above (Part (context.texts.target file) (colour_of word) source) ∷ [] else []
@@ -111,3 +111,8 @@ all_by_line (suc left) context = outcomes_by_line (Some (λ inner. concatenation
 -- all outcomes of the context's text
 abbrev pub all : ℕ → Context → List Outcome
 all left context = concatenation (all_by_line left context)
+
+-- what a text that a reference enters gives, where the way may have so many files more behind the text that refers to it
+abbrev pub enter_with : ℕ → Enter
+enter_with zero = None
+enter_with (suc left) = Some (λ inner. all left inner)

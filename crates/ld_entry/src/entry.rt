@@ -30,6 +30,7 @@ pub enum Entry {
     },
     /// What the part draws follows as entries of its own.
     Part {
+        /// The text at which the moves of the file found end.
         file: TextId,
         colour: Colour,
         source: Source,

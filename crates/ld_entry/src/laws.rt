@@ -1,4 +1,4 @@
-ghost use Rattle.ld_entry.specs.Laws.{ActionLaw, AgreementLaw, CarryLaws, CountLaw, CutLaws, EndsLaws, FoundLaw, HeightLaws, LawfulLaw, LineEndsLaw, LineLaws, LinkLaw, LowerLaw, MapsLaw, ReachedLaw, RenamingLaw, ReuseLaw, StandingLaw, TargetLaw, TintLaw, WalkLaws, WayLaw};
+ghost use Rattle.ld_entry.specs.Laws.{ActionLaw, AgreementLaw, CarryLaws, CountLaw, CutLaws, DepthLaw, EndsLaws, FoundLaw, HeightLaws, LawfulLaw, LineEndsLaw, LineLaws, LinkLaw, LowerLaw, MapsLaw, PartLaw, ReachedLaw, RenamingLaw, ReuseLaw, StandingLaw, TargetLaw, TintLaw, WalkLaws, WayLaw};
 
 use ld_bfc::{state_laws, with_laws};
 use ld_colour::{lawful_colours, under_laws};
@@ -79,7 +79,7 @@ pub fn reached_law()
     number_law();
 }
 
-/// Among known texts, references lead to the part at which moves end.
+/// Among known texts, fewer than 64 references lead from a text to the one at which its moves end.
 pub fn target_law()
     ensures { TargetLaw }
 {
@@ -88,13 +88,28 @@ pub fn target_law()
     file_laws();
 }
 
-/// Where nothing is wanted, the known texts give what the texts as they stand give.
+/// In a set in which nothing is wanted, the known texts give what the texts as they stand give.
 pub fn standing_law()
     ensures { StandingLaw }
 {
     lookup_law();
     file_laws();
 }
+
+/// A reference to a file that is not on the way, the text itself with it, enters the file while the
+/// way has fewer files than the depth, and is too deep where it has as many or more. A file on the
+/// way is a cycle at every depth.
+pub fn depth_law()
+    ensures { DepthLaw }
+{
+    state_laws();
+}
+
+/// Where a text that is no part refers to a part, the entry of the part is of the text at which its
+/// moves end. In a part, and of a file that is no part, there is none.
+pub fn part_law()
+    ensures { PartLaw }
+{}
 
 /// What a line's name finds its text refers to, and a walk that ends at a text goes on to that.
 pub fn walk_laws()
@@ -127,8 +142,8 @@ pub fn way_law()
 {}
 
 /// The expansion of a low text by itself may stand in the place of the text, under any way that
-/// leads to it: what a reference gives that enters it is its part entry, then that expansion
-/// carried, then its end, cut.
+/// leads to it. Up to a cut, what a reference gives that enters it from a text below nothing is the
+/// part entry, where one is due, then that expansion carried, then its end.
 pub fn reuse_law()
     ensures { ReuseLaw }
 {
@@ -142,14 +157,16 @@ pub fn agreement_law()
     ensures { AgreementLaw }
 {}
 
-/// So do the texts of two maps that say the same of the files inside, whatever stands elsewhere.
+/// The texts of two maps that say the same of the files of a set that no reference leaves agree on
+/// it, whatever stands elsewhere.
 pub fn maps_law()
     ensures { MapsLaw }
 {
     file_laws();
 }
 
-/// Texts that agree under other numbers give the same, with these numbers in it.
+/// Texts that agree under other numbers give, each by itself, the same with these numbers in the
+/// place of theirs.
 pub fn renaming_law()
     ensures { RenamingLaw }
 {}

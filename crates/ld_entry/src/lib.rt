@@ -17,7 +17,7 @@ mod tests;
 pub use carrying::carry;
 pub use entry::{Entry, Expansion, Fault, Outer, Source, What};
 pub use laws::{
-    action_law, agreement_law, carry_laws, count_law, cut_laws, ends_laws, found_law, height_laws,
-    lawful_law, line_ends_law, line_laws, link_law, lower_law, maps_law, reached_law, renaming_law,
-    reuse_law, standing_law, target_law, tint_law, walk_laws, way_law,
+    action_law, agreement_law, carry_laws, count_law, cut_laws, depth_law, ends_laws, found_law,
+    height_laws, lawful_law, line_ends_law, line_laws, link_law, lower_law, maps_law, part_law,
+    reached_law, renaming_law, reuse_law, standing_law, target_law, tint_law, walk_laws, way_law,
 };

@@ -1,6 +1,6 @@
 //! Entries below references, and worked models by the definition of recursive expansion.
 ghost use Rattle.ld_entry.specs.KeptRows.{AboveTheDepth, AsManyEntriesAsAllowed, AtTheDepth, CycleIsHigh, EndBehindAnOuterRange, HeightsOfModels, InTheMainColour, OneEntryMoreThanAllowed};
-ghost use Rattle.ld_entry.specs.MovedRows.{MovedCycle, MovedPart, MovesOf64, MovesOf65, NoTargets, TargetsOverWalks};
+ghost use Rattle.ld_entry.specs.MovedRows.{MovedCycle, MovedPart, MovesInACycle, MovesOf64, MovesOf65, NoTargets, TargetsOverWalks};
 ghost use Rattle.ld_entry.specs.Rows.{AbsentRoot, AsManyAsAllowed, CertificationPassed, CertificationRefused, CertificationStopped, ChainOf64, ChainOf65, ClipAndWinding, Colours, CycleFromTheFirst, CycleFromTheSecond, DepthOfOne, DepthOfThree, DepthOfTwo, DirectColours, EarlierFaultFromOutside, EndsOfAnOrdinaryModel, FirstOfAnOrdinaryModel, InvertnextAndMirror, MatrixOfZeros, MirrorAlone, NameWithoutNormalForm, NoFaultFromOutside, NoLineType, NumberOutOfRange, OneEntryAllowed, OneTooMany, OnlyEntryAllowed, ReferenceToItself, ReferenceWithoutFile, RootWithoutLines, RoundingAtEachReference, UnknownRoot};
 
 mod colours;
@@ -295,6 +295,7 @@ fn moved_parts()
     ensures targets_over_walks { TargetsOverWalks }
     ensures no_targets { NoTargets }
     ensures moved_cycle { MovedCycle }
+    ensures moves_in_a_cycle { MovesInACycle }
     ensures moves_of64 { MovesOf64 }
     ensures moves_of65 { MovesOf65 }
 {}

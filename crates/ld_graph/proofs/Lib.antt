@@ -10,6 +10,14 @@ pub mod Linked
 pub mod Rising
 pub mod Referring
 pub mod Upward
+pub mod Agreed
+pub mod Turned
+pub mod MovedName
+pub mod Moves
+pub mod Named
+pub mod Readied
+pub mod Clean
+pub mod Appeared
 pub mod Users
 pub mod Rewritten
 pub mod Keeping

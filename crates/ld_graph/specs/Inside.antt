@@ -3,3 +3,5 @@ pub mod Marking
 pub mod Nodes
 pub mod Linking
 pub mod Rising
+pub mod Moving
+pub mod Naming

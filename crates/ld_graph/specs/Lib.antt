@@ -1,7 +1,12 @@
 pub mod Dirt
+pub mod Reading
+pub mod Resolving
 pub mod Web
 pub mod Items
 pub mod Changing
 pub mod Laws
 pub mod Seen
+pub mod Agreeing
+pub mod AgreeingLaws
+pub mod Moving
 pub mod Inside

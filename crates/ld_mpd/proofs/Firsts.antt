@@ -1,5 +1,5 @@
 -- The first block of each kind and name.
-use Rattle.std.proofs.Common.{◌≡◌, ℕ, true, false, cond, List, [], ◌∷◌, ◌++◌, refl, ap, sym, ◌∙◌, append_assoc, append-nil}
+use Rattle.std.proofs.Common.{◌≡◌, ℕ, true, false, cond, List, [], ◌∷◌, ◌++◌, ap, sym, ◌∙◌, append_assoc, append-nil}
 use Rattle.ld_mpd.specs.declared.block.Block.{Block}
 use Rattle.ld_line.specs.Cut.{lines_of}
 use Rattle.ld_mpd.specs.Blocks.{begun_blocks, behind_file, blocks_in, blocks_of, firsts, is_later, opening}

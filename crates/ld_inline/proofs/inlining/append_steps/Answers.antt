@@ -1,4 +1,4 @@
-use Rattle.std.proofs.Common.{◌≡◌, ◌++◌, ◌∷◌, [], length, rules}
+use Rattle.std.proofs.Common.{◌≡◌, ◌∷◌, length, rules}
 use Rattle.ld_colour.specs.Table.{counting}
 use Rattle.ld_inline.proofs.Texts.{shown_more, steps_more, within_more}
 use Rattle.ld_inline.proofs.inlining.append_steps.Goals as goal
