@@ -25,3 +25,4 @@ pub mod Naming
 pub mod Added
 pub mod Learning
 pub mod Preparing
+pub mod Edited

@@ -47,7 +47,7 @@ present_same numbers others present seen n p (folder ∷ folders) =
     at None = refl
     at (Some text) = ap (λ now. present_or text now (first_present numbers present folders)) (p text)
 
-some_same : {A B : Type 0} (f : A → B) (o : Option A) → is_some (option_map f o) ≡ is_some o
+pub some_same : {A B : Type 0} (f : A → B) (o : Option A) → is_some (option_map f o) ≡ is_some o
 some_same f None = refl
 some_same f (Some x) = refl
 

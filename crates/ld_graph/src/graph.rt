@@ -1,5 +1,5 @@
-ghost use Rattle.std.specs.Prelude.{◌≡◌, ◌≤◌, ◌<◌, ◌^◌, ◌+◌, ◌↔◌, IfOk, true, suc, [], length, option_and_then, option_map, slice_get};
-ghost use Rattle.std.specs.Option.{option_copied};
+ghost use Rattle.std.specs.Prelude.{◌≡◌, ◌≢◌, ◌≤◌, ◌<◌, ◌^◌, ◌+◌, ◌↔◌, IfOk, true, suc, [], length, option_and_then, option_map, slice_get};
+ghost use Rattle.std.specs.Option.{is_some, option_copied};
 ghost use Rattle.ld_names.specs.declared.file.TextId.{TextId};
 ghost use Rattle.ld_graph.specs.Changing.{IsDirty};
 ghost use Rattle.ld_graph.specs.Dirt.{is_dirty};
@@ -145,7 +145,9 @@ impl Graph {
             room,
             dirty,
         } = editing;
-        let turned = self.links.present(text.0) != names.is_some();
+        file_laws();
+        let _ = self.marks.listed();
+        let turned = turns(&self.links, text.0, &names);
         let went = self.links.drop_listed(gone);
         self.links.take_names(text.0);
         self.links.give_listed(text.0, &names, room);
@@ -162,4 +164,11 @@ impl Graph {
         );
         dirty
     }
+}
+
+// Whether a text appears or goes where it gets these names.
+fn turns(links: &Links, text: u32, names: &Option<Vec<Name>>) -> bool
+    ensures { (result ≡ true) ↔ (is_some (names_at links.now.items text) ≢ is_some names.now) }
+{
+    links.present(text) != names.is_some()
 }
