@@ -2,3 +2,4 @@ pub mod Tables
 pub mod Whole
 pub mod Forgetting
 pub mod Budget
+pub mod Graphs

@@ -8,9 +8,11 @@
 
 mod cache;
 mod kept;
+mod laws;
 mod slot;
 #[cfg(test)]
 mod tests;
 
 pub use cache::Cache;
 pub use kept::Kept;
+pub use laws::graph_law;

@@ -1,13 +1,30 @@
 -- What a list of names finds, and by which name; what a map makes, and of what.
-use Rattle.std.proofs.Common.{◌≡◌, ◌<◌, ◌⊎◌, ℕ, zero, suc, Bool, true, false, List, [], ◌∷◌, Option, Some, None, map, length, get_or, refl, sym, ap, ◌∙◌, subst, arith}
+use Rattle.std.proofs.Common.{◌≡◌, ◌<◌, ◌+◌, ◌++◌, ◌⊎◌, ℕ, zero, suc, max, take, Bool, true, false, List, [], ◌∷◌, Option, Some, None, map, length, get_or, refl, sym, ap, ◌∙◌, subst, arith}
 use Rattle.std.specs.List.{Contains, cons_option, filter_map, slice_get}
-use Rattle.std.specs.Option.{option_map, unwrap_or}
+use Rattle.std.specs.Option.{option_map, option_map_or, unwrap_or}
+use Rattle.std.proofs.lemmas.List.{take_more}
+use Rattle.std.proofs.lemmas.List.Elements.{filter_map-append}
 use Rattle.std.proofs.lemmas.Option.{slice_get-map, unwrap_or-slice_get}
 use Rattle.ld_names.specs.declared.file.Folder.{Folder}
 use Rattle.ld_names.specs.declared.file.FileId.{FileId}
 use Rattle.ld_graph.specs.Items.{Item, Items, file_at, first_present, found_by, here_or, present_or, web_of}
-use Rattle.ld_graph.specs.Web.{children_of}
+use Rattle.ld_graph.specs.Web.{children_of, tallest}
 use Rattle.ld_graph.proofs.Listed.{here, there}
+
+-- ---- the tallest of what is found
+
+tallest_option : (f : ℕ → ℕ) (xs : List ℕ) (x : Option ℕ) → tallest f (xs ++ cons_option x []) ≡ max (option_map_or f x 0) (tallest f xs)
+tallest_option f [] None = omega arith
+tallest_option f [] (Some x) = omega arith
+tallest_option f (y ∷ xs) x = let rest = tallest_option f xs x in omega arith
+
+pub tallest-found_more : (f : ℕ → ℕ) (g : ℕ → Option ℕ) (xs : List ℕ) (i : ℕ) → i < length xs → tallest f (filter_map g (take (i + 1) xs)) ≡ max (option_map_or f (g (get_or xs i 0)) 0) (tallest f (filter_map g (take i xs)))
+tallest-found_more f g xs i lt =
+    ap (λ ys. tallest f (filter_map g ys)) (take_more xs i 0 lt)
+    ∙ ap (tallest f) (filter_map-append g (take i xs) (get_or xs i 0 ∷ []))
+    ∙ tallest_option f (filter_map g (take i xs)) (g (get_or xs i 0))
+
+-- ---- what is found, and by what
 
 found_in : {X Y : Type 0} (g : X → Option Y) (xs : List X) (x : X) (y : Y) (k : ℕ) → k < length xs → get_or xs k x ≡ x → g x ≡ Some y → Contains (filter_map g xs) y
 found_in g [] x y k lt at is = absurd (omega arith)

@@ -103,3 +103,9 @@ heights_agree before after P same below zero text p = refl
 heights_agree before after P same below (suc b) text p =
     ap (over_children (height before b)) (same text p)
     ∙ over_same after (height before b) (height after b) text (λ x r. heights_agree before after P same below b x (below text x p r))
+
+-- where there is no text, each has 0
+pub height_past : (bound text : ℕ) → height [] bound text ≡ 0
+unfolding height
+height_past zero text = refl
+height_past (suc bound) text = refl

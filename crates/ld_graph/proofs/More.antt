@@ -28,7 +28,7 @@ tallest_sub f g (x ∷ xs) ys sub le =
     let rest = tallest_sub f g xs ys (λ y d. sub y (there y x xs d)) le in omega arith
 
 module _ (equality : IsFileEquality) where
-  same_presence : (before after : Items) → IsMore before after → (file : FileId) (text : ℕ) → number_of before file ≡ Some text → presence before text ≡ presence after text
+  pub same_presence : (before after : Items) → IsMore before after → (file : FileId) (text : ℕ) → number_of before file ≡ Some text → presence before text ≡ presence after text
   same_presence before after more file text is = at (slice_get before text) refl (sym (file_is before text) ∙ file_of_number equality before file text is)
     where
       at : (item : Option Item) → slice_get before text ≡ item → option_map (λ (x : Item). x.0) item ≡ Some file → presence before text ≡ presence after text

@@ -6,3 +6,7 @@ pub mod Items
 pub mod Changing
 pub mod Laws
 pub mod Seen
+pub mod Agreeing
+pub mod AgreeingLaws
+pub mod Moving
+pub mod Inside

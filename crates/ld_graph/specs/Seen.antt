@@ -5,20 +5,23 @@ use Rattle.std.specs.Option.{option_map_or}
 use Rattle.ld_names.specs.declared.file.FileId.{FileId}
 use Rattle.ld_graph.specs.Items.{Items, Names, with_names_at}
 
--- the depth and an item for each text; and the memory that is taken: the names that one more text can use and one more
--- file can have, and how many more texts there is room for
+-- the depth and an item for each text; and the memory that is taken: the names that one more text can refer by, those
+-- that one more file can have, and for how many more texts there is room
 pub record Graph : Type 0 where
   pub depth : ℕ
   pub items : Items
+  pub spares : List (List ℕ)
   pub places : List (List ℕ)
   pub room : ℕ
 
--- the name has a place
+abbrev pub has_spare : Graph → List ℕ → Bool
+has_spare graph name = list_any (bytes_eq name) graph.spares
+
 abbrev pub has_place : Graph → List ℕ → Bool
 has_place graph name = list_any (bytes_eq name) graph.places
 
-abbrev pub HavePlaces : Graph → List (List ℕ) → Type 0
-HavePlaces graph names = All (λ name. has_place graph name ≡ true) names
+abbrev pub HaveSpares : Graph → List (List ℕ) → Type 0
+HaveSpares graph names = All (λ name. has_spare graph name ≡ true) names
 
 -- the names of a present text, none of an absent one
 abbrev pub listed : Names → List (List ℕ)
@@ -29,6 +32,7 @@ pub record KeepsGraph (old new : Graph) : Type 0 where
   pub depth : new.depth ≡ old.depth
   pub items : new.items ≡ old.items
   pub room : old.room ≤ new.room
+  pub spares : (name : List ℕ) → has_spare old name ≡ true → has_spare new name ≡ true
   pub places : (name : List ℕ) → has_place old name ≡ true → has_place new name ≡ true
 
 -- a file that is learnt, with the names of its references or as absent
@@ -40,7 +44,7 @@ pub record Learning : Type 0 where
 pub record HasRoomToLearn (graph : Graph) (learning : Learning) : Type 0 where
   pub room : 0 < graph.room
   pub file : has_place graph learning.file.name ≡ true
-  pub names : HavePlaces graph (listed learning.names)
+  pub names : HaveSpares graph (listed learning.names)
 
 abbrev pub items_learnt : Items → Learning → Items
 items_learnt items learning = items ++ (learning.file, learning.names) ∷ []
@@ -55,7 +59,7 @@ pub record Editing : Type 0 where
 
 -- the memory for an edit is taken
 pub record HasRoomToEdit (graph : Graph) (editing : Editing) : Type 0 where
-  pub names : HavePlaces graph (listed editing.names)
+  pub names : HaveSpares graph (listed editing.names)
   pub texts : editing.texts ≡ length graph.items
 
 -- the changed texts are known, and they are two

@@ -37,6 +37,14 @@ impl Dirty {
         self.marks[id.0 as usize] = true;
     }
 
+    // The texts that these marks mark.
+    pub(crate) fn fill(&mut self, marks: &[bool])
+        requires { length marks.now ≡ length self.old }
+        ensures { self.new ≡ marks.now }
+    {
+        self.marks.copy_from_slice(marks);
+    }
+
     /// Whether a text is in it.
     pub fn has(&self, id: TextId) -> bool
         ensures { result ≡ is_dirty self.now id }

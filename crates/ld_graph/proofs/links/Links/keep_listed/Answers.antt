@@ -1,0 +1,7 @@
+use Rattle.std.proofs.Common.{Some, ap, sym, subst}
+use Rattle.std.proofs.lemmas.Result.{on_ok_weaker}
+use Rattle.ld_graph.specs.Inside.Linking.{HaveSpares, names_listed}
+use Rattle.ld_graph.proofs.links.Links.keep_listed.Goals as goal
+
+pub returns-in-Some-clause-spares : goal.returns-in-Some-clause-spares
+returns-in-Some-clause-spares c = rw (c.in-Some.is, ← c.deref.ensures.value) c.keep_each.ensures.spares

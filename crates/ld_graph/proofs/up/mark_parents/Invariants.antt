@@ -1,0 +1,12 @@
+use Rattle.std.proofs.Common.{◌≡◌, ◌<◌, ◌⊎◌, ℕ, Some, get_or}
+use Rattle.std.specs.List.{Contains}
+use Rattle.ld_graph.specs.Inside.Linking.{found_by_name}
+use Rattle.ld_graph.specs.Inside.Marking.{IsMarked, MarksMore}
+use Rattle.ld_graph.proofs.up.mark_parents.Given as goal
+
+abbrev pub invariant-loop-user : goal.invariant-loop-user
+invariant-loop-user l = record {
+  more : MarksMore l.fn.marks l.marks;
+  marked : (k : ℕ) → k < l.user-index → found_by_name l.links.items (get_or l.users k 0) l.text ≡ Some l.text → IsMarked l.marks (get_or l.users k 0);
+  only : (other : ℕ) → IsMarked l.marks other → IsMarked l.fn.marks other ⊎ Contains l.users other × (found_by_name l.links.items other l.text ≡ Some l.text);
+}
