@@ -1,3 +1,4 @@
+pub mod Agreed
 pub mod Computed
 pub mod Counted
 pub mod Expanded

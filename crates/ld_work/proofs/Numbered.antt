@@ -37,7 +37,7 @@ module _ (numbers : NumbersAgree) (known : Known) (distinct : AreDistinct known)
   id = record { 0 = n }
 
   -- what the map says of the file at a number
-  map-at : (file : FileId) → file_at known n ≡ Some file → known_map known file ≡ Some (lines_at known n)
+  pub map-at : (file : FileId) → file_at known n ≡ Some file → known_map known file ≡ Some (lines_at known n)
   map-at file is = numbers.map known file ∙ ap (option_map (lines_at known)) (numbers.number known file n distinct is)
 
   none-there : file_at known n ≡ None → lines_at known n ≡ None

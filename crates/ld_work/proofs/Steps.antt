@@ -26,7 +26,7 @@ module _ (expander : Expander) (old mid : Reading) (same : mid.texts ≡ old.tex
   pub may-same : (work : Work) (text : TextId) → MayPass expander old work text → MayPass expander mid work text
   may-same work text may =
       record {
-        ready = subst (λ (ts : Texts). IsReady expander (known_texts ts.known)) (sym same) may.ready;
+        ready = subst (IsReady expander) (sym same) may.ready;
         walk = rw same may.walk;
         deep = may.deep;
         room = may.room;

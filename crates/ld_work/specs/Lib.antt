@@ -1,6 +1,5 @@
 pub mod Bounds
 pub mod Fitting
-pub mod Graphs
 pub mod Inside
 pub mod Reads
 pub mod ReadsRows

@@ -8,7 +8,7 @@ ghost use Rattle.ld_entry.specs.Carrying.{above_of};
 ghost use Rattle.ld_entry.specs.Heights.{Refers, height};
 ghost use Rattle.ld_entry.specs.Outcomes.{all, found_outcomes, outer_of, part_outcomes};
 ghost use Rattle.ld_cache.specs.Kept.{kept_of};
-ghost use Rattle.ld_work.specs.Graphs.{AgreesWith, height_in};
+ghost use Rattle.ld_work.specs.Inside.Agreeing.{AgreesWith, height_in};
 ghost use Rattle.ld_work.specs.Inside.Gathering.{Extends, Gathers, alone, enter_with};
 ghost use Rattle.ld_work.specs.Inside.Parsing.{IsParsedText, parsed_outcomes, reads_parsed, reads_used, used_outcomes};
 ghost use Rattle.ld_work.specs.Inside.Working.{Gives, IsLineOf, MayPass, ReadsAtMost, basis_of, below_with, left_at, texts_of};
@@ -17,7 +17,6 @@ ghost use Rattle.ld_work.specs.declared.line.Finding.TheVariants.{File};
 
 use crate::bounds::Bounds;
 use crate::carrying::carry_from;
-use crate::graph::Graph;
 use crate::line::{Finding, NO_LINES, ParsedLine, Reference, Said};
 use crate::parsed::{ParsedText, ParsedTexts};
 use crate::seen::is_part;
@@ -28,7 +27,7 @@ use ld_colour::colour_of;
 use ld_entry::{
     Entry, Fault, Outer, Source, What, action_law, carry_laws, cut_laws, reuse_law, walk_laws,
 };
-use ld_graph::Reader;
+use ld_graph::{Graph, Reader};
 use ld_names::TextId;
 use ld_num::mirrored;
 use smallvec::SmallVec;
@@ -96,7 +95,7 @@ impl Expander<'_> {
         file: TextId,
         entries: &mut Vec<Entry>,
     ) -> Result<(), AllocError>
-        requires { AgreesWith self.now.graph.now self.now.bounds.depth (texts_of reader.now) }
+        requires { AgreesWith self.now.graph.now self.now.bounds.depth reader.now.texts }
         ensures extends { OnOk result (Extends entries.old.items entries.new.items) }
         ensures within { OnOk result (length entries.new.items ≤ suc (length entries.old.items)) }
         ensures gathers { OnOk result ((way : List TextId) (most word : ℕ) → outer.now.colour ≡ colour_of_word word →
@@ -106,7 +105,7 @@ impl Expander<'_> {
         let _ = NO_LINES;
         if !is_part(reader, outer.source.text) && is_part(reader, file) {
             entries.push(Entry::Part {
-                file: self.graph.target(file),
+                file: self.graph.target(reader, file),
                 colour: outer.colour,
                 source: outer.source,
             })?;

@@ -11,7 +11,6 @@ mod bounds;
 mod carrying;
 mod cursor;
 mod expanding;
-mod graph;
 mod line;
 mod parsed;
 mod seen;
@@ -22,6 +21,5 @@ mod text;
 mod tinting;
 
 pub use bounds::Bounds;
-pub use graph::Graph;
 pub use text::{Room, expand_text, expand_within};
 pub use tinting::tint;

@@ -2,9 +2,10 @@
 ghost use Rattle.std.specs.Prelude.{◌≡◌, ◌≤◌, ◌<◌, ◌+◌, ◌-◌, ◌++◌, ◌^◌, IfOk, OnOk, [], length, suc, replicate};
 ghost use Rattle.ld_entry.specs.Expansion.{neutral_expansion};
 ghost use Rattle.ld_entry.specs.NumberedTexts.{known_texts};
+ghost use Rattle.ld_graph.specs.Agreeing.{Agrees};
 ghost use Rattle.ld_work.specs.Bounds.{AreBounds};
 ghost use Rattle.ld_work.specs.Fitting.{FitsIn};
-ghost use Rattle.ld_work.specs.Graphs.{AgreesWith};
+ghost use Rattle.ld_work.specs.Inside.Agreeing.{AgreesWith};
 ghost use Rattle.ld_work.specs.Inside.Working.{IsReady, ReadsAtMost, basis_of, texts_of};
 ghost use Rattle.ld_work.specs.Reads.{reads};
 ghost use Rattle.ld_work.specs.Right.{AreRight};
@@ -12,14 +13,14 @@ ghost use Rattle.ld_work.specs.Right.{AreRight};
 use crate::bounds::Bounds;
 use crate::cursor::Cursor;
 use crate::expanding::{Expander, Work};
-use crate::graph::Graph;
 use crate::line::NO_LINES;
 use crate::parsed::ParsedTexts;
 use crate::seen::line_count;
-use ld_cache::Cache;
-use ld_entry::{Expansion, Fault, carry_laws, cut_laws, walk_laws};
-use ld_graph::Reader;
+use ld_cache::{Cache, graph_law};
+use ld_entry::{Expansion, Fault, carry_laws, cut_laws, found_law, walk_laws};
+use ld_graph::{Graph, Reader};
 use ld_names::{List as Items, TextId};
+use ld_texts::number_law;
 use smallvec::SmallVec;
 use std::alloc::{AllocError, Global};
 
@@ -51,10 +52,22 @@ fn expansion(work: Work, line_ends: Vec<u32>, end: Option<Fault>) -> Expansion
     }
 }
 
+// A graph that agrees with texts says of them what their lines do.
+fn graph_agrees(reader: &Reader<'_>, graph: &Graph, depth: u32)
+    requires graph { Agrees graph.now reader.now.texts }
+    requires depth { graph.now.depth ≡ depth }
+    ensures { AgreesWith graph.now depth reader.now.texts }
+{
+    let _ = reader.known();
+    number_law();
+    found_law();
+    graph_law();
+}
+
 impl Expander<'_> {
     // What the text gives by itself. Behind its end the ends of lines stay.
     fn expand(&self, reader: &mut Reader<'_>, text: TextId) -> Result<Expansion, AllocError>
-        requires ready { IsReady self.now (texts_of reader.old) }
+        requires ready { IsReady self.now reader.old.texts }
         requires depth { 1 ≤ self.now.bounds.depth }
         requires small { suc self.now.most < 2 ^ 32 }
         ensures exactly { IfOk result (λ given. given ≡ neutral_expansion (texts_of reader.old) self.now.bounds.depth self.now.most [] text) }
@@ -97,12 +110,14 @@ pub fn expand_text(
     bounds: Bounds,
 ) -> Result<Expansion, AllocError>
     requires bounds { AreBounds bounds }
-    requires graph { AgreesWith graph.now bounds.depth (known_texts reader.old.texts.known) }
+    requires graph { Agrees graph.now reader.old.texts }
+    requires depth { graph.now.depth ≡ bounds.depth }
     requires kept { AreRight (known_texts reader.old.texts.known) bounds cache.now }
     ensures exactly { IfOk result (λ expansion. expansion ≡ neutral_expansion (known_texts reader.old.texts.known) bounds.depth bounds.entries [] id) }
     ensures texts { reader.new.texts ≡ reader.old.texts }
     ensures reads { reader.new.reads ≤ reader.old.reads + reads (record { texts = known_texts reader.old.texts.known; bounds = bounds; cache = cache.now }) [] id }
 {
+    graph_agrees(reader, graph, bounds.depth);
     let expander = Expander {
         alloc,
         graph,
@@ -131,12 +146,14 @@ pub fn expand_within(
     room: Room,
 ) -> Result<Option<Expansion>, AllocError>
     requires bounds { AreBounds room.bounds }
-    requires graph { AgreesWith graph.now room.bounds.depth (known_texts reader.old.texts.known) }
+    requires graph { Agrees graph.now reader.old.texts }
+    requires depth { graph.now.depth ≡ room.bounds.depth }
     requires kept { AreRight (known_texts reader.old.texts.known) room.bounds cache.now }
     ensures fits { IfOk result (FitsIn room.entries (neutral_expansion (known_texts reader.old.texts.known) room.bounds.depth room.bounds.entries [] id)) }
     ensures texts { reader.new.texts ≡ reader.old.texts }
     ensures reads { reader.new.reads ≤ reader.old.reads + reads (record { texts = known_texts reader.old.texts.known; bounds = room.bounds; cache = cache.now }) [] id }
 {
+    graph_agrees(reader, graph, room.bounds.depth);
     let expander = Expander {
         alloc,
         graph,

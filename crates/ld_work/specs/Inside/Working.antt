@@ -1,13 +1,14 @@
 -- What the steps of an expansion rest on, and what they leave.
 use Rattle.std.specs.Prelude.{◌≡◌, ◌≤◌, ◌<◌, ◌+◌, ◌++◌, ℕ, zero, suc, List, [], ◌∷◌, length, Option, Some, None}
 use Rattle.ld_names.specs.declared.file.TextId.{TextId}
+use Rattle.ld_texts.specs.Learning.{Texts}
 use Rattle.ld_graph.specs.Reading.{Reading}
 use Rattle.ld_entry.specs.Answers.{left_below}
 use Rattle.ld_entry.specs.Carrying.{Outcome}
 use Rattle.ld_entry.specs.Heights.{IsWalk, Refers}
 use Rattle.ld_entry.specs.NumberedTexts.{known_texts, NumberedTexts}
 use Rattle.ld_entry.specs.declared.entry.Fault.{Fault}
-use Rattle.ld_work.specs.Graphs.{AgreesWith}
+use Rattle.ld_work.specs.Inside.Agreeing.{AgreesWith}
 use Rattle.ld_work.specs.Inside.Gathering.{Extends, Gathers, IsWithin}
 use Rattle.ld_work.specs.Inside.Parsing.{AreParsed}
 use Rattle.ld_work.specs.Reads.{Basis, Below, reads_within}
@@ -36,14 +37,14 @@ pub record ReadsAtMost (old new : Reading) (lines : ℕ) : Type 0 where
   pub reads : new.reads ≤ old.reads + lines
 
 -- what is kept may be taken, for a cut as early
-pub record IsReady (expander : Expander) (texts : NumberedTexts) : Type 0 where
+pub record IsReady (expander : Expander) (texts : Texts) : Type 0 where
   pub graph : AgreesWith expander.graph.now expander.bounds.depth texts
-  pub right : AreRight texts expander.bounds expander.cache.now
+  pub right : AreRight (known_texts texts.known) expander.bounds expander.cache.now
   pub most : expander.most ≤ expander.bounds.entries
 
 -- Work that may go on with a text: the text stands at the end of the way, and no entry too many stands.
 pub record MayPass (expander : Expander) (reader : Reading) (work : Work) (text : TextId) : Type 0 where
-  pub ready : IsReady expander (texts_of reader)
+  pub ready : IsReady expander reader.texts
   pub walk : IsWalk (texts_of reader) (work.way.items ++ text ∷ [])
   pub deep : length work.way.items < expander.bounds.depth
   pub room : length work.entries.items ≤ expander.most

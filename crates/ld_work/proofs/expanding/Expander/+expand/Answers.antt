@@ -10,7 +10,7 @@ use Rattle.ld_entry.specs.Heights.{IsLow, IsWalk}
 use Rattle.ld_entry.specs.Outcomes.{all, found_outcomes, is_on_way, outer_of, part_outcomes}
 use Rattle.ld_entry.specs.declared.entry.Source.{Source}
 use Rattle.ld_cache.specs.Kept.{kept_of}
-use Rattle.ld_work.specs.Graphs.{height_in}
+use Rattle.ld_work.specs.Inside.Agreeing.{height_in}
 use Rattle.ld_work.specs.Inside.Gathering.{alone, CarriesFrom, enter_with, Gathers, IsWithin}
 use Rattle.ld_work.specs.Inside.Parsing.{parsed_lines}
 use Rattle.ld_work.specs.Inside.Working.{basis_of, left_at, MayPass, texts_of}
