@@ -1,19 +1,19 @@
 -- A file that is not known becomes one more text.
-use Rattle.std.proofs.Common.{◌≡◌, ◌<◌, ◌+◌, ◌++◌, ◌⊎◌, ◌&&◌, ℕ, zero, suc, List, [], ◌∷◌, Option, Some, None, map, length, true, false, cond, inl, inr, ⊎_elim, refl, sym, ap, ap₂, ◌∙◌, subst, arith, tests, Bool, true≢false}
+use Rattle.std.proofs.Common.{◌≡◌, ◌++◌, ◌⊎◌, ◌&&◌, ℕ, zero, suc, List, [], ◌∷◌, Option, Some, None, map, length, true, false, cond, inl, inr, ⊎_elim, refl, sym, ap, ap₂, ◌∙◌, subst, arith, tests, Bool}
 use Rattle.std.proofs.lemmas.Bool.{and_parts}
 use Rattle.std.proofs.lemmas.List.{length-map, map-append}
 use Rattle.std.proofs.lemmas.Slice.Eq.{bytes_eq-Decides}
-use Rattle.std.specs.Prelude.{◌↔◌, bytes_eq, nat_lt}
+use Rattle.std.specs.Prelude.{bytes_eq, nat_lt}
 use Rattle.std.specs.Vec.{vec_capacity}
 use Rattle.std.specs.List.{Contains, position, slice_get}
 use Rattle.std.specs.Map.{lookup}
-use Rattle.std.specs.Option.{option_and_then, option_map, option_map_or, option_or, unwrap_or}
+use Rattle.std.specs.Option.{option_map, option_map_or, option_or, unwrap_or}
 use Rattle.slab.specs.Slab.{get, with_value}
 use Rattle.ld_names.specs.Standing.{file_in, same_file, same_folder}
 use Rattle.ld_names.specs.declared.file.FileId.{FileId}
 use Rattle.ld_names.specs.declared.file.Folder.{Folder}
 use Rattle.ld_graph.specs.Items.{Item, Items, files_of, names_at, number_of}
-use Rattle.ld_graph.specs.Inside.Linking.{IsKey, IsLinked, IsNode, Uses, file_of, item_of, items_of, keys_in}
+use Rattle.ld_graph.specs.Inside.Linking.{IsLinked, file_of, item_of, items_of}
 use Rattle.ld_graph.specs.Inside.Nodes.{Nodes, has_spare, key_of, name_at, name_of, number_in, numbers_at, passes_at, users_at}
 use Rattle.ld_graph.specs.declared.node.Node.{Node}
 use Rattle.ld_graph.specs.declared.node.Text.{Text}
@@ -118,22 +118,22 @@ module _ (old : Nodes) (keys : List (List ℕ × ℕ)) (texts : List Text) (link
   numbered other which is folder =
       ⊎_elim
       (λ equal.
-          let same_name : which ≡ file.name = (let e = sym is ∙ ap (name_at old) equal ∙ named_here in cc) in
-          ap (λ k. number_in (numbers_at new k) folder) equal
-          ∙ ap (λ one. number_in (option_map_or (λ (node : Node). node.numbers.items) one []) folder) (at_key old key node added at)
-          ∙ ap (λ numbers. number_in numbers folder) numbers
-          ∙ lookup-push folder file.folder node.numbers.items (length texts)
-          ∙ ap (λ number. option_or number (cond (same_folder folder file.folder) (Some (length texts)) None)) (sym (ap (λ one. number_in (option_map_or (λ (node : Node). node.numbers.items) one []) folder) at) ∙ (linked.nodes_are key file.name named_here).numbers_are folder)
-          ∙ ap (λ last. option_or (number_of items (file_in folder file.name)) last) (ap₂ (λ b n. cond b (Some n) None) (sym (same_there folder)) (sym count))
-          ∙ sym (position-push (same_file (file_in folder file.name)) (files_of items) file)
-          ∙ ap (λ name. position (same_file (file_in folder name)) (files_of items ++ file ∷ [])) (sym same_name))
+      let same_name : which ≡ file.name = (let e = sym is ∙ ap (name_at old) equal ∙ named_here in cc) in
+      ap (λ k. number_in (numbers_at new k) folder) equal
+      ∙ ap (λ one. number_in (option_map_or (λ (node : Node). node.numbers.items) one []) folder) (at_key old key node added at)
+      ∙ ap (λ numbers. number_in numbers folder) numbers
+      ∙ lookup-push folder file.folder node.numbers.items (length texts)
+      ∙ ap (λ number. option_or number (cond (same_folder folder file.folder) (Some (length texts)) None)) (sym (ap (λ one. number_in (option_map_or (λ (node : Node). node.numbers.items) one []) folder) at) ∙ (linked.nodes_are key file.name named_here).numbers_are folder)
+      ∙ ap (λ last. option_or (number_of items (file_in folder file.name)) last) (ap₂ (λ b n. cond b (Some n) None) (sym (same_there folder)) (sym count))
+      ∙ sym (position-push (same_file (file_in folder file.name)) (files_of items) file)
+      ∙ ap (λ name. position (same_file (file_in folder name)) (files_of items ++ file ∷ [])) (sym same_name))
       (λ differs.
-          let other_name : which ≡ file.name → ⊥ = λ same. differs (key_here old keys texts linked key other file.name named_here (is ∙ ap Some same)) in
-          ap (λ one. number_in (option_map_or (λ (node : Node). node.numbers.items) one []) folder) (at_other old key node added at other differs)
-          ∙ (linked.nodes_are other which is).numbers_are folder
-          ∙ none_behind (number_of items (file_in folder which))
-          ∙ ap (λ b. option_or (number_of items (file_in folder which)) (cond b (Some (length (files_of items))) None)) (sym (not_there folder which other_name))
-          ∙ sym (position-push (same_file (file_in folder which)) (files_of items) file))
+      let other_name : which ≡ file.name → ⊥ = λ same. differs (key_here old keys texts linked key other file.name named_here (is ∙ ap Some same)) in
+      ap (λ one. number_in (option_map_or (λ (node : Node). node.numbers.items) one []) folder) (at_other old key node added at other differs)
+      ∙ (linked.nodes_are other which is).numbers_are folder
+      ∙ none_behind (number_of items (file_in folder which))
+      ∙ ap (λ b. option_or (number_of items (file_in folder which)) (cond b (Some (length (files_of items))) None)) (sym (not_there folder which other_name))
+      ∙ sym (position-push (same_file (file_in folder which)) (files_of items) file))
       (same_or_not other key)
     where
       none_behind : (number : Option ℕ) → number ≡ option_or number None
@@ -149,8 +149,7 @@ module _ (old : Nodes) (keys : List (List ℕ × ℕ)) (texts : List Text) (link
         record {
           numbers_are = λ folder. numbered other which was folder ∙ ap (position (same_file (file_in folder which))) (sym files_are);
           users_are = λ user.
-              let names : names_at (items_of new (texts ++ text ∷ [])) user ≡ names_at items user = ap (λ all. names_at all user) items_are ∙ names-push items file user in
-              (
+              let names : names_at (items_of new (texts ++ text ∷ [])) user ≡ names_at items user = ap (λ all. names_at all user) items_are ∙ names-push items file user in (
                 (λ c. subst (λ ns. Contains (unwrap_or ns []) which) (sym names) ((its.users_are user).0 (subst (λ us. Contains us user) (users_stay other) c))),
                 (λ u. subst (λ us. Contains us user) (sym (users_stay other)) ((its.users_are user).1 (subst (λ ns. Contains (unwrap_or ns []) which) names u))),
               );

@@ -1,5 +1,5 @@
 -- What the items of known texts say of the texts.
-use Rattle.std.proofs.Common.{◌≡◌, ℕ, List, [], ◌∷◌, length, map, Option, Some, None, ap, refl, sym, ◌∙◌, option_and_then, option_map, position, slice_get, unwrap_or, arith, tests}
+use Rattle.std.proofs.Common.{◌≡◌, ℕ, List, [], ◌∷◌, length, Option, Some, None, ap, refl, sym, ◌∙◌, option_and_then, option_map, position, slice_get, unwrap_or}
 use Rattle.std.specs.List.{filter_map}
 use Rattle.std.specs.Option.{is_some}
 use Rattle.std.proofs.lemmas.List.{length-map}

@@ -1,5 +1,5 @@
 -- The files that an edit turns are those of which its change says so.
-use Rattle.std.proofs.Common.{◌≡◌, ◌≢◌, ◌⊎◌, ◌↔◌, ◌-◌, ℕ, Bool, true, false, not, cond, [], ◌∷◌, Option, Some, None, IsSome, ap, refl, sym, ◌∙◌, subst, inl, inr, ⊎_elim, option_and_then, option_map, slice_set, unwrap_or, arith, tests}
+use Rattle.std.proofs.Common.{◌≡◌, ◌≢◌, ◌⊎◌, ◌↔◌, ◌-◌, ℕ, Bool, true, false, not, cond, [], ◌∷◌, Option, Some, None, IsSome, ap, refl, sym, ◌∙◌, subst, inl, inr, ⊎_elim, option_and_then, option_map, slice_set, unwrap_or}
 use Rattle.std.specs.List.{Contains, insert, list_all, remove}
 use Rattle.std.specs.Option.{is_none, is_some, option_or}
 use Rattle.ld_names.specs.Finding.{IsFileEquality}

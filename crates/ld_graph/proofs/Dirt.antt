@@ -1,19 +1,19 @@
 -- A text is touched by a change, or refers to the same as before.
-use Rattle.std.proofs.Common.{◌≡◌, ◌≢◌, ◌<◌, ◌⊎◌, ◌==◌, ◌&&◌, ℕ, suc, Bool, true, false, List, [], ◌∷◌, Option, Some, None, inl, inr, ⊎_elim, refl, sym, ap, ap₂, ◌∙◌, subst, arith, get_or, map, length, bytes_eq, true≢false}
+use Rattle.std.proofs.Common.{◌≡◌, ◌⊎◌, ℕ, Bool, true, List, [], ◌∷◌, Option, Some, None, inl, inr, ⊎_elim, refl, sym, ap, ap₂, ◌∙◌, subst, get_or}
 use mathlib.Core.Bool.{Bool-discrete}
 use mathlib.Core.HLevel.{Discrete}
 use Rattle.std.specs.List.{Contains, cons_option, filter_map, slice_get}
 use Rattle.std.specs.Option.{option_map, option_and_then, is_some, unwrap_or}
 use Rattle.std.proofs.lemmas.List.Quantifiers.{position-Some}
-use Rattle.std.proofs.lemmas.Option.{slice_get-get_or, slice_get-map, unwrap_or-slice_get}
+use Rattle.std.proofs.lemmas.Option.{slice_get-get_or, slice_get-map}
 use Rattle.ld_names.specs.Finding.{IsFileEquality}
 use Rattle.ld_names.specs.Standing.{folders_of, same_file}
 use Rattle.ld_names.specs.declared.file.FileId.{FileId}
 use Rattle.ld_names.specs.declared.file.Folder.{Folder}
-use Rattle.ld_graph.specs.Changing.{HasTurned, IsChanged, IsDirty, IsTouched, NamesText}
-use Rattle.ld_graph.specs.Items.{Item, Items, file_at, files_of, first_present, found, found_by, here_or, names_at, number_of, presence, present_or, web_of}
+use Rattle.ld_graph.specs.Changing.{HasTurned, IsChanged, IsTouched}
+use Rattle.ld_graph.specs.Items.{Item, Items, file_at, files_of, first_present, found, found_by, here_or, number_of, presence, present_or, web_of}
 use Rattle.ld_graph.specs.Laws.{DirtIsLeast, DirtIsOne, OthersStay}
-use Rattle.ld_graph.specs.Web.{IsWalk, Reaches, Refers, Web, children_of, end_of, height}
+use Rattle.ld_graph.specs.Web.{IsWalk, Reaches, children_of, end_of}
 use Rattle.ld_graph.proofs.FoundBy.{children_is, file_is}
 use Rattle.ld_graph.proofs.Heights.{heights_agree}
 use Rattle.ld_graph.proofs.Listed.{here, there}

@@ -1,17 +1,15 @@
 -- What an edit of names touches, and what it leaves.
-use Rattle.std.proofs.Common.{◌≡◌, ◌≢◌, ◌<◌, ◌⊎◌, ℕ, zero, suc, Bool, true, false, List, [], ◌∷◌, Option, Some, None, IfSome, length, get_or, set, map, inl, inr, ⊎_elim, refl, sym, ap, ap₂, ◌∙◌, subst, arith, true≢false, length-set}
+use Rattle.std.proofs.Common.{◌≡◌, ◌≢◌, ◌<◌, ◌⊎◌, ℕ, zero, suc, Bool, true, false, List, [], ◌∷◌, Option, Some, None, IfSome, length, get_or, set, inl, inr, ⊎_elim, refl, sym, ap, ◌∙◌, subst, arith, true≢false, length-set}
 use Rattle.std.proofs.lemmas.Bool.{cases_Bool}
-use Rattle.std.proofs.lemmas.Option.{slice_get_within}
 use Rattle.std.specs.List.{Contains, position, slice_get}
-use Rattle.std.specs.Option.{IsSomeAnd, is_some, option_and_then, option_map, option_map_or, unwrap_or}
+use Rattle.std.specs.Option.{IsSomeAnd, is_some, option_and_then, option_map, option_map_or}
 use Rattle.ld_names.specs.Finding.{IsFileEquality}
 use Rattle.ld_names.specs.Standing.{same_file}
-use Rattle.ld_names.specs.declared.file.FileId.{FileId}
 use Rattle.ld_names.specs.declared.file.TextId.{TextId}
 use Rattle.ld_graph.specs.Changing.{HasTurned, IsChanged, IsDirty, IsTouched, NamesText}
-use Rattle.ld_graph.specs.Items.{Item, Items, Names, files_of, names_at, number_of, presence, web_of, with_names_at}
+use Rattle.ld_graph.specs.Items.{Item, Items, Names, files_of, names_at, presence, web_of, with_names_at}
 use Rattle.ld_graph.specs.Seen.{Editing, IsEditOf, changed_by, items_edited, items_without}
-use Rattle.ld_graph.specs.Web.{IsWalk, Reaches, Refers, Web, height}
+use Rattle.ld_graph.specs.Web.{Reaches, Web, height}
 use Rattle.ld_graph.specs.Inside.Marking.{IsMarked, Marked}
 use Rattle.ld_graph.specs.Inside.Rising.{AreRight, height_in}
 use Rattle.ld_graph.proofs.Dirt.{dirt_is_one, others_stay}

@@ -1,8 +1,7 @@
 -- Folders are the same where their places and documents are.
-use Rattle.std.proofs.Common.{◌≡◌, ◌∙◌, ◌==◌, ◌&&◌, ◌⊎◌, ℕ, Bool, true, false, inl, inr, ⊎_elim, refl, sym, ap, true≢false}
-use Rattle.std.proofs.lemmas.Bool.{and_parts}
+use Rattle.std.proofs.Common.{◌≡◌, ◌∙◌, ◌==◌, ℕ, true, ⊎_elim, refl, sym, ap, true≢false}
 use Rattle.std.proofs.lemmas.Bool.Decides.{eqb_tells}
-use Rattle.ld_names.specs.Standing.{document_of, folder_place, same_folder}
+use Rattle.ld_names.specs.Standing.{same_folder}
 use Rattle.ld_names.specs.declared.file.Folder.{Folder}
 use Rattle.ld_names.specs.declared.file.Folder.TheVariants.{Model, Parts, P}
 

@@ -1,13 +1,12 @@
 -- What a list of names finds, and by which name; what a map makes, and of what.
-use Rattle.std.proofs.Common.{◌≡◌, ◌<◌, ◌+◌, ◌++◌, ◌⊎◌, ℕ, zero, suc, max, take, Bool, true, false, List, [], ◌∷◌, Option, Some, None, map, length, get_or, refl, sym, ap, ◌∙◌, subst, arith}
+use Rattle.std.proofs.Common.{◌≡◌, ◌<◌, ◌+◌, ◌++◌, ℕ, zero, suc, max, take, Bool, true, false, List, [], ◌∷◌, Option, Some, None, map, length, get_or, refl, sym, ap, ◌∙◌, subst, arith}
 use Rattle.std.specs.List.{Contains, cons_option, filter_map, slice_get}
 use Rattle.std.specs.Option.{option_map, option_map_or, unwrap_or}
 use Rattle.std.proofs.lemmas.List.{take_more}
 use Rattle.std.proofs.lemmas.List.Elements.{filter_map-append}
 use Rattle.std.proofs.lemmas.Option.{slice_get-map, unwrap_or-slice_get}
 use Rattle.ld_names.specs.declared.file.Folder.{Folder}
-use Rattle.ld_names.specs.declared.file.FileId.{FileId}
-use Rattle.ld_graph.specs.Items.{Item, Items, file_at, first_present, found_by, here_or, present_or, web_of}
+use Rattle.ld_graph.specs.Items.{Items, file_at, first_present, found_by, here_or, present_or, web_of}
 use Rattle.ld_graph.specs.Web.{children_of, tallest}
 use Rattle.ld_graph.proofs.Listed.{here, there}
 
@@ -83,7 +82,6 @@ made_by f [] y k lt is = absurd (omega arith)
 made_by f (first ∷ xs) y zero lt is = (first, here first xs, is)
 made_by f (first ∷ xs) y (suc k) lt is = let rest = made_by f xs y k (omega arith) is in (rest.0, there rest.0 first xs rest.1, rest.2)
 
-
 -- ---- items
 
 pub children_is : (items : Items) (text : ℕ) → children_of (web_of items) text ≡ unwrap_or (option_map (found_by items) (slice_get items text)) None
@@ -91,4 +89,3 @@ children_is items text = sym (unwrap_or-slice_get (web_of items) text None) ∙ 
 
 pub file_is : (items : Items) (text : ℕ) → file_at items text ≡ option_map (λ item. item.0) (slice_get items text)
 file_is items text = slice_get-map (λ item. item.0) items text
-

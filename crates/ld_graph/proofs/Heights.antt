@@ -1,7 +1,6 @@
 -- The local equations of heights have one solution; what lies between the heights counted so far and all of them.
-use Rattle.std.proofs.Common.{◌≡◌, ◌<◌, ◌≤◌, ◌+◌, ◌-◌, ℕ, zero, suc, min, max, List, [], ◌∷◌, ◌++◌, length, get_or, take, refl, sym, ap, ◌∙◌, arith, ◌⊎◌, inl, inr, Option, Some, None, set, get_or-set_same, get_or-set_other, ⊎_elim, subst}
+use Rattle.std.proofs.Common.{◌≡◌, ◌≤◌, ℕ, zero, suc, min, List, [], ◌∷◌, refl, sym, ap, ◌∙◌, arith, Option, Some, None}
 use Rattle.std.specs.Option.{unwrap_or}
-use Rattle.std.proofs.lemmas.Bool.{cases_eq}
 use Rattle.std.specs.List.{Contains}
 use Rattle.ld_graph.specs.Laws.{HeightsAreOne}
 use Rattle.ld_graph.specs.Web.{AreHeights, Refers, Web, children_of, height, over, over_children, tallest}

@@ -1,11 +1,10 @@
 -- A name gets a node, or its node more memory.
-use Rattle.std.proofs.Common.{◌≡◌, ◌≢◌, ◌<◌, ◌≤◌, ◌⊎◌, ◌||◌, ◌&&◌, ℕ, zero, suc, Bool, true, false, cond, List, [], ◌∷◌, Option, Some, None, map, length, get_or, filter, bytes_eq, inl, inr, ⊎_elim, refl, sym, ap, ap₂, ◌∙◌, subst, arith, true≢false}
+use Rattle.std.proofs.Common.{◌≡◌, ◌≢◌, ◌⊎◌, ◌||◌, ◌&&◌, ℕ, zero, suc, Bool, true, false, cond, List, [], ◌∷◌, Option, Some, None, map, filter, bytes_eq, inl, inr, ⊎_elim, refl, sym, ap, ap₂, ◌∙◌, subst, arith}
 use Rattle.std.specs.BTreeMap.{is_at}
 use Rattle.std.specs.Cmp.Lexicographic.{slice_cmp, texts_ties}
 use Rattle.std.specs.List.{Contains, list_any, slice_get}
-use Rattle.std.specs.Map.{lookup}
 use Rattle.std.specs.Ordering.{nat_cmp}
-use Rattle.std.specs.Option.{is_some, option_and_then, option_map, option_map_or, unwrap_or}
+use Rattle.std.specs.Option.{is_some, option_map, option_map_or, unwrap_or}
 use Rattle.std.proofs.lemmas.Bool.{cases_Bool}
 use Rattle.std.proofs.lemmas.Cmp.{eq_by_cmp_equiv, nat_list_cmp_total}
 use Rattle.std.proofs.lemmas.Map.Lookups.{exact_bytes}
@@ -16,9 +15,9 @@ use Rattle.ld_names.specs.Finding.{IsFileEquality}
 use Rattle.ld_names.specs.Standing.{file_in}
 use Rattle.ld_names.specs.declared.file.FileId.{FileId}
 use Rattle.ld_names.specs.declared.file.Folder.{Folder}
-use Rattle.ld_graph.specs.Items.{Item, Items, file_at, names_at, number_of, numbers_of}
-use Rattle.ld_graph.specs.Inside.Linking.{IsKey, IsLinked, IsNode, KeepsLinks, Linked, Uses, file_of, item_of, items_of, keys_in}
-use Rattle.ld_graph.specs.Inside.Nodes.{KeepsNames, Nodes, has_space, has_spare, key_of, name_at, name_of, names_with, number_in, numbers_at, passes, passes_at, users_at}
+use Rattle.ld_graph.specs.Items.{Item, numbers_of}
+use Rattle.ld_graph.specs.Inside.Linking.{IsKey, IsLinked, IsNode, KeepsLinks, Linked, Uses, item_of, items_of, keys_in}
+use Rattle.ld_graph.specs.Inside.Nodes.{KeepsNames, Nodes, key_of, name_at, name_of, names_with, number_in, numbers_at, passes, passes_at, users_at}
 use Rattle.ld_graph.specs.declared.node.Node.{Node}
 use Rattle.ld_graph.specs.declared.node.Text.{Text}
 use Rattle.ld_graph.proofs.Dirt.{file_of_number}

@@ -1,7 +1,7 @@
 -- What a learnt file changes: its own text, and what its name finds.
-use Rattle.std.proofs.Common.{◌≡◌, ◌≢◌, ◌≤◌, ◌<◌, ◌+◌, ◌++◌, ◌⊎◌, ◌&&◌, ℕ, zero, suc, min, List, [], ◌∷◌, Option, Some, None, length, get_or, set, true, false, cond, inl, inr, ⊎_elim, refl, sym, ap, ap₂, ◌∙◌, subst, arith, Bool, true≢false}
+use Rattle.std.proofs.Common.{◌≡◌, ◌≢◌, ◌≤◌, ◌++◌, ◌⊎◌, ℕ, zero, suc, min, List, [], ◌∷◌, Option, Some, None, length, set, true, false, cond, inl, inr, ⊎_elim, refl, sym, ap, ap₂, ◌∙◌, subst, arith, Bool, true≢false}
 use Rattle.std.proofs.lemmas.Bool.{and_parts}
-use Rattle.std.proofs.lemmas.List.{length-map, map-append}
+use Rattle.std.proofs.lemmas.List.{map-append}
 use Rattle.std.proofs.lemmas.Slice.Eq.{bytes_eq-Decides}
 use Rattle.std.specs.Prelude.{bytes_eq}
 use Rattle.std.specs.List.{Contains, position, slice_get}
@@ -11,12 +11,12 @@ use Rattle.ld_names.specs.Standing.{file_in, folders_of, same_file, same_folder}
 use Rattle.ld_names.specs.declared.file.FileId.{FileId}
 use Rattle.ld_names.specs.declared.file.Folder.{Folder}
 use Rattle.ld_graph.specs.Changing.{IsMore}
-use Rattle.ld_graph.specs.Items.{Item, Items, Names, file_at, files_of, first_present, found, found_by, here_or, names_at, number_of, numbers_of, presence, present_or, web_of, with_names_at}
-use Rattle.ld_graph.specs.Web.{Refers, children_of, height, over}
+use Rattle.ld_graph.specs.Items.{Item, Items, Names, file_at, files_of, first_present, found, found_by, here_or, number_of, numbers_of, presence, present_or, web_of, with_names_at}
+use Rattle.ld_graph.specs.Web.{Refers, children_of, height}
 use Rattle.ld_graph.specs.Inside.Linking.{RefersByName, Uses}
 use Rattle.ld_graph.specs.Inside.Marking.{Marked}
 use Rattle.ld_graph.specs.Inside.Rising.{AreBelow, AreRight, HasFloor, IsSettled, height_in}
-use Rattle.ld_graph.proofs.Added.{get-push, position-push}
+use Rattle.ld_graph.proofs.Added.{position-push}
 use Rattle.ld_graph.proofs.FoundBy.{children_is, file_is}
 use Rattle.ld_graph.proofs.Heights.{heights_are}
 use Rattle.ld_graph.proofs.More.{heights_rise, same_presence}
@@ -133,8 +133,8 @@ module _ (equality : IsFileEquality) (items : Items) (file : FileId) (names : Na
     learnt_floors other =
         ⊎_elim inl
         (λ differs. inr (λ known.
-            let some : children_of (web_of items) other ≢ None = λ none. known (children_is after other ∙ ap (λ item. unwrap_or (option_map (found_by after) item) None) (item_else other differs) ∙ by (slice_get items other) (sym (children_is items other) ∙ none)) in
-            subst (λ h. min cap 1 ≤ h) (sym (right_longer other)) (floor_over (web_of items) cap (height (web_of items) cap other) (height (web_of items) cap) other (subst (λ h. h ≤ height (web_of items) cap other) (heights_are (web_of items) cap other) (omega arith)) some)))
+        let some : children_of (web_of items) other ≢ None = λ none. known (children_is after other ∙ ap (λ item. unwrap_or (option_map (found_by after) item) None) (item_else other differs) ∙ by (slice_get items other) (sym (children_is items other) ∙ none)) in
+        subst (λ h. min cap 1 ≤ h) (sym (right_longer other)) (floor_over (web_of items) cap (height (web_of items) cap other) (height (web_of items) cap) other (subst (λ h. h ≤ height (web_of items) cap other) (heights_are (web_of items) cap other) (omega arith)) some)))
         (same_or_not other text)
       where
         by : (item : Option Item) → unwrap_or (option_map (found_by items) item) None ≡ None → unwrap_or (option_map (found_by after) item) None ≡ None
@@ -146,19 +146,19 @@ module _ (equality : IsFileEquality) (items : Items) (file : FileId) (names : Na
     learnt_settled marked other child refers =
         ⊎_elim inl
         (λ differs. inr (
-            let by = finds_by after other child refers in
-            let its = by.1 in
-            ⊎_elim
-            (λ same. inl (record {
-              file = file;
-              file_is = file_here;
-              uses = subst (Uses after other) same its.uses;
-              finds = by_file after other text its.from file file_here its.from_is ∙ ap (found after its.from.folder) (sym same) ∙ its.finds;
-            }))
-            (λ another.
-                let before : FindsBy items other child by.0 = record { from = its.from; from_is = sym (file_else other differs) ∙ its.from_is; uses = uses_else other by.0 differs its.uses; finds = found_else its.from.folder by.0 another ∙ its.finds } in
-                inr (inr (right_settled (web_of items) cap (height_in longer) other child right_longer (refers_by items other child by.0 before))))
-            (same_name_or_not by.0)))
+        let by = finds_by after other child refers in
+        let its = by.1 in
+        ⊎_elim
+        (λ same. inl (record {
+          file = file;
+          file_is = file_here;
+          uses = subst (Uses after other) same its.uses;
+          finds = by_file after other text its.from file file_here its.from_is ∙ ap (found after its.from.folder) (sym same) ∙ its.finds;
+        }))
+        (λ another.
+        let before : FindsBy items other child by.0 = record { from = its.from; from_is = sym (file_else other differs) ∙ its.from_is; uses = uses_else other by.0 differs its.uses; finds = found_else its.from.folder by.0 another ∙ its.finds } in
+        inr (inr (right_settled (web_of items) cap (height_in longer) other child right_longer (refers_by items other child by.0 before))))
+        (same_name_or_not by.0)))
         (same_or_not other text)
 
 pub learnt_items : (items added after : Items) (file : FileId) (names : Names) (text : ℕ) → text ≡ length items → added ≡ items ++ (file, None) ∷ [] → after ≡ with_names_at added text names → after ≡ items ++ (file, names) ∷ []

@@ -1,21 +1,19 @@
 -- What the nodes say of the items.
-use Rattle.std.proofs.Common.{◌≡◌, ◌<◌, ◌⊎◌, ⊎_elim, ℕ, zero, suc, Bool, true, false, List, [], ◌∷◌, Option, Some, None, map, length, get_or, refl, sym, ap, ap₂, ◌∙◌, subst, arith, tests, nat_lt, Vec, Global}
-use Rattle.std.proofs.lemmas.Bool.{cases_lt}
-use Rattle.std.proofs.lemmas.List.{length-map}
-use Rattle.std.proofs.lemmas.Option.{slice_get-map, slice_get_past, slice_get_read, slice_get_within, get_or_from_slice_get}
-use Rattle.std.specs.List.{All, Contains, cons_option, filter_map, slice_get}
+use Rattle.std.proofs.Common.{◌≡◌, ◌<◌, ℕ, suc, Bool, true, List, [], ◌∷◌, Option, Some, None, map, length, get_or, refl, sym, ap, ap₂, ◌∙◌, subst, arith, tests, nat_lt, Vec, Global}
+use Rattle.std.proofs.lemmas.Option.{slice_get-map, slice_get_read, slice_get_within, get_or_from_slice_get}
+use Rattle.std.specs.List.{Contains, cons_option, filter_map, slice_get}
 use Rattle.std.specs.Option.{is_some, option_and_then, option_map, option_map_or, unwrap_or}
 use Rattle.slab.specs.Slab.{get}
-use Rattle.ld_names.specs.Standing.{file_in, folders_of}
+use Rattle.ld_names.specs.Standing.{folders_of}
 use Rattle.ld_names.specs.declared.file.FileId.{FileId}
 use Rattle.ld_names.specs.declared.file.Folder.{Folder}
 use Rattle.ld_graph.specs.Items.{Item, Items, file_at, first_present, found, found_by, here_or, names_at, numbers_of, presence, present_or, web_of}
-use Rattle.ld_graph.specs.Web.{Web, children_of, over, over_children, tallest}
-use Rattle.ld_graph.specs.Inside.Linking.{AreUsers, IsKey, IsLinked, IsNode, LooksAt, Uses, found_by_name, file_of, found_at, is_there, item_of, items_of, keys_in, node_of}
-use Rattle.ld_graph.specs.Inside.Nodes.{Nodes, key_of, name_at, name_of, number_in, numbers_at, users_at}
+use Rattle.ld_graph.specs.Web.{children_of, over, over_children, tallest}
+use Rattle.ld_graph.specs.Inside.Linking.{AreUsers, IsKey, IsLinked, LooksAt, Uses, found_by_name, file_of, found_at, is_there, item_of, items_of, keys_in, node_of}
+use Rattle.ld_graph.specs.Inside.Nodes.{Nodes, name_at, name_of, number_in, numbers_at, users_at}
 use Rattle.ld_graph.specs.declared.node.Node.{Node}
 use Rattle.ld_graph.specs.declared.node.Text.{Text}
-use Rattle.ld_graph.proofs.FoundBy.{children_is, contains_map, file_is, made_by}
+use Rattle.ld_graph.proofs.FoundBy.{children_is, file_is}
 use Rattle.ld_graph.proofs.Listed.{here, there}
 
 -- ---- one node
@@ -202,10 +200,12 @@ module _ (nodes : Nodes) (keys : List (List ℕ × ℕ)) (texts : List Text) (li
       let within = slice_get_within own.items index key at in
       let contains : Contains (unwrap_or (keys_in one) []) key = rw mine (index, within, get_or_from_slice_get own.items index key key at) in
       let known = linked.named text one key is contains in
-      let node = node_at nodes key known.0 known.1 in
-      (node.0, node.1,
-      ap Some (node.2 ∙ sym (name_here nodes key known.0 known.1)) ∙ sym (
-      ap (option_and_then (λ names. slice_get names index)) (names_by nodes texts text one is ∙ ap (option_map (map (name_of nodes))) mine) ∙ slice_get-map (name_of nodes) own.items index ∙ ap (option_map (name_of nodes)) at))
+      let node = node_at nodes key known.0 known.1 in (
+        node.0,
+        node.1,
+        ap Some (node.2 ∙ sym (name_here nodes key known.0 known.1)) ∙ sym (
+            ap (option_and_then (λ names. slice_get names index)) (names_by nodes texts text one is ∙ ap (option_map (map (name_of nodes))) mine) ∙ slice_get-map (name_of nodes) own.items index ∙ ap (option_map (name_of nodes)) at),
+      )
 
   pub over_right : (text cap : ℕ) (one : Text) (own : Vec ℕ Global) (heights : ℕ → ℕ) → slice_get texts text ≡ Some one → one.names ≡ Some own → over (web_of (items_of nodes texts)) heights text ≡ suc (tallest heights (filter_map (found_at nodes texts one.folder) own.items))
   over_right text cap one own heights is has =

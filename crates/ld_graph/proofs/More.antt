@@ -1,5 +1,5 @@
 -- No height falls where more is known.
-use Rattle.std.proofs.Common.{◌≡◌, ◌<◌, ◌≤◌, ℕ, zero, suc, max, Bool, true, false, List, [], ◌∷◌, Option, Some, None, length, get_or, refl, sym, ap, ◌∙◌, subst, arith}
+use Rattle.std.proofs.Common.{◌≡◌, ◌<◌, ◌≤◌, ℕ, zero, suc, Bool, true, false, List, [], ◌∷◌, Option, Some, None, length, get_or, refl, sym, ap, ◌∙◌, subst, arith}
 use Rattle.std.specs.List.{Contains, filter_map, slice_get}
 use Rattle.std.specs.Option.{is_some, option_map, unwrap_or}
 use Rattle.ld_names.specs.Finding.{IsFileEquality}
@@ -72,4 +72,3 @@ module _ (equality : IsFileEquality) where
   heights_rise before after (suc b) text more =
       subst (λ one. over_children (height (web_of before) b) one ≤ over_children (height (web_of after) b) (children_of (web_of after) text)) (sym (children_is before text))
       (children_grow before after more (height (web_of before) b) (height (web_of after) b) text (λ x. heights_rise before after b x more) (slice_get before text) refl)
-

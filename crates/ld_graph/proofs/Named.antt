@@ -1,5 +1,5 @@
 -- The names of lines, and what an edit leaves of them.
-use Rattle.std.proofs.Common.{◌≡◌, ◌+◌, ◌++◌, ◌-◌, ◌<◌, ℕ, suc, List, [], ◌∷◌, ap, sym, ◌∙◌, drop, length, slice_set, take, arith, tests}
+use Rattle.std.proofs.Common.{◌≡◌, ◌+◌, ◌++◌, ◌<◌, ℕ, suc, List, [], ◌∷◌, ap, sym, ◌∙◌, drop, length, slice_set, take, arith}
 use Rattle.std.specs.List.{remove}
 use Rattle.std.proofs.lemmas.List.{append_assoc, drop-drop, set_split}
 use Rattle.std.proofs.lemmas.List.Elements.{filter_map-append}

@@ -1,13 +1,13 @@
 -- The keys of names, and the memory that their nodes have.
-use Rattle.std.proofs.Common.{◌≡◌, ◌<◌, ◌++◌, ◌⊎◌, ℕ, zero, suc, List, [], ◌∷◌, Option, Some, None, map, length, get_or, true, false, cond, inl, inr, ⊎_elim, refl, sym, ap, ap₂, ◌∙◌, subst, arith, tests, Bool}
+use Rattle.std.proofs.Common.{◌≡◌, ◌<◌, ℕ, List, [], ◌∷◌, Option, Some, None, map, length, true, false, cond, inl, refl, sym, ap, ap₂, ◌∙◌, subst, arith, tests, Bool}
 use Rattle.std.proofs.lemmas.Slice.Eq.{bytes_eq-Decides}
-use Rattle.std.specs.Prelude.{◌||◌, bytes_eq, nat_lt}
+use Rattle.std.specs.Prelude.{◌||◌, bytes_eq}
 use Rattle.std.specs.List.{Contains, filter, list_any}
 use Rattle.std.specs.Option.{option_map_or}
 use Rattle.std.specs.Vec.{vec_capacity}
 use Rattle.slab.specs.Slab.{get}
 use Rattle.ld_graph.specs.Inside.Linking.{IsKey, IsLinked}
-use Rattle.ld_graph.specs.Inside.Nodes.{AreKeysOf, CanAddAt, CanLearn, Nodes, has_spare, key_of, name_at, name_of, names_with, passes, passes_at}
+use Rattle.ld_graph.specs.Inside.Nodes.{AreKeysOf, CanLearn, Nodes, has_spare, key_of, name_of, names_with, passes, passes_at}
 use Rattle.ld_graph.specs.declared.node.Node.{Node}
 use Rattle.ld_graph.specs.declared.node.Text.{Text}
 use Rattle.ld_graph.proofs.FoundBy.{contains_map, made_by}

@@ -1,8 +1,6 @@
 -- What a graph has room for.
-use Rattle.std.proofs.Common.{◌≡◌, ◌≤◌, ◌<◌, ℕ, min, List, Option, Some, None, All, refl, sym, subst, arith, true}
-use Rattle.ld_names.specs.declared.file.FileId.{FileId}
-use Rattle.ld_graph.specs.Inside.Linking.{HaveSpares, KeepsLinks, Linked}
-use Rattle.ld_graph.specs.Items.{Names}
+use Rattle.std.proofs.Common.{◌≤◌, ℕ, min, refl, arith}
+use Rattle.ld_graph.specs.Inside.Linking.{KeepsLinks, Linked}
 use Rattle.ld_graph.specs.Seen.{Graph, KeepsGraph}
 
 abbrev pub graph_of : ℕ → Linked → ℕ → Graph

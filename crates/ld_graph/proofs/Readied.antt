@@ -1,5 +1,5 @@
 -- What a prepared change is, and what the graph is after it.
-use Rattle.std.proofs.Common.{◌≡◌, ◌-◌, ℕ, [], Option, Some, None, IsSome, ap, refl, sym, subst, ◌∙◌, length, option_map, slice_set, unwrap_or, arith}
+use Rattle.std.proofs.Common.{◌≡◌, ◌-◌, ℕ, [], Option, Some, None, IsSome, ap, refl, sym, subst, ◌∙◌, length, option_map, slice_set, unwrap_or}
 use Rattle.std.specs.List.{insert, remove}
 use Rattle.std.specs.Map.{set_value}
 use Rattle.std.specs.Option.{option_or}

@@ -1,15 +1,14 @@
 -- A reference by its name.
-use Rattle.std.proofs.Common.{◌≡◌, ◌<◌, ◌⊎◌, ℕ, zero, suc, Bool, true, false, List, [], ◌∷◌, Option, Some, None, length, get_or, refl, sym, ap, ap₂, ◌∙◌, subst, arith}
-use Rattle.std.proofs.lemmas.Option.{slice_get-map}
-use Rattle.std.specs.List.{Contains, filter_map, slice_get}
+use Rattle.std.proofs.Common.{◌≡◌, ◌<◌, ℕ, zero, suc, List, [], ◌∷◌, Option, Some, None, length, refl, sym, ap, ◌∙◌, subst, arith}
+use Rattle.std.specs.List.{Contains, slice_get}
 use Rattle.std.specs.Option.{option_and_then, option_map, unwrap_or}
 use Rattle.ld_names.specs.Finding.{IsFileEquality}
 use Rattle.ld_names.specs.Standing.{file_in, folders_of}
 use Rattle.ld_names.specs.declared.file.FileId.{FileId}
 use Rattle.ld_names.specs.declared.file.Folder.{Folder}
 use Rattle.ld_graph.specs.Changing.{NamesText}
-use Rattle.ld_graph.specs.Items.{Item, Items, file_at, files_of, found, found_by, names_at, numbers_of, presence, web_of}
-use Rattle.ld_graph.specs.Web.{Refers, children_of}
+use Rattle.ld_graph.specs.Items.{Item, Items, file_at, found, found_by, names_at, numbers_of, presence, web_of}
+use Rattle.ld_graph.specs.Web.{Refers}
 use Rattle.ld_graph.specs.Inside.Linking.{AreUsers, LooksAt, RefersByName, Uses, found_by_name}
 use Rattle.ld_graph.proofs.Dirt.{file_of_number}
 use Rattle.ld_graph.proofs.FoundBy.{children_is, contains_found, file_is, found_by_some, number_of_found}
@@ -28,13 +27,15 @@ finds_by items user child r = at (slice_get items user) refl (subst (λ xs. Cont
     at None is c = absurd (omega (arith, c.1))
     at (Some (from, None)) is c = absurd (omega (arith, c.1))
     at (Some (from, Some names)) is c =
-        let by = found_by_some (found items from.folder) names child c in
-        (by.0, record {
-          from = from;
-          from_is = file_is items user ∙ ap (option_map (λ (item : Item). item.0)) is;
-          uses = subst (λ o. Contains (unwrap_or (option_and_then (λ (item : Item). item.1) o) []) by.0) (sym is) by.1;
-          finds = by.2;
-        })
+        let by = found_by_some (found items from.folder) names child c in (
+          by.0,
+          record {
+            from = from;
+            from_is = file_is items user ∙ ap (option_map (λ (item : Item). item.0)) is;
+            uses = subst (λ o. Contains (unwrap_or (option_and_then (λ (item : Item). item.1) o) []) by.0) (sym is) by.1;
+            finds = by.2;
+          },
+        )
 
 pub refers_by : (items : Items) (user child : ℕ) (name : List ℕ) → FindsBy items user child name → Refers (web_of items) user child
 refers_by items user child name by = subst (λ xs. Contains (unwrap_or xs []) child) (sym (children_is items user)) (at (slice_get items user) (sym (file_is items user) ∙ by.from_is) by.uses)

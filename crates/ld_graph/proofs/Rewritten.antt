@@ -1,15 +1,15 @@
 -- One text gets other names.
-use Rattle.std.proofs.Common.{◌≡◌, ◌<◌, ◌++◌, ◌⊎◌, ℕ, zero, suc, List, [], ◌∷◌, Option, Some, None, map, length, get_or, set, true, false, cond, inl, inr, ⊎_elim, refl, sym, ap, ap₂, ◌∙◌, subst, arith, Bool}
+use Rattle.std.proofs.Common.{◌≡◌, ◌⊎◌, ℕ, zero, suc, List, [], ◌∷◌, Option, Some, None, map, set, true, false, cond, inl, inr, ⊎_elim, refl, sym, ap, ap₂, ◌∙◌, subst, Bool}
 use Rattle.std.proofs.lemmas.List.{map-set}
 use Rattle.std.proofs.lemmas.Option.{slice_get_within}
-use Rattle.std.specs.Prelude.{◌↔◌, ◌||◌, bytes_eq, slice_set}
+use Rattle.std.specs.Prelude.{◌↔◌, ◌||◌, bytes_eq}
 use Rattle.std.specs.List.{Contains, filter, list_any, position, slice_get}
 use Rattle.std.specs.Option.{option_and_then, option_map, option_map_or, unwrap_or}
 use Rattle.ld_names.specs.Standing.{file_in, same_file}
 use Rattle.ld_names.specs.declared.file.FileId.{FileId}
-use Rattle.ld_graph.specs.Items.{Item, Items, Names, files_of, names_at, number_of, with_names_at}
-use Rattle.ld_graph.specs.Inside.Linking.{IsKey, IsLinked, IsNode, Uses, file_of, item_of, items_of, keys_in}
-use Rattle.ld_graph.specs.Inside.Nodes.{Forgets, KeepsNames, Learns, Nodes, has_spare, key_of, name_at, name_of, names_with, number_in, numbers_at, passes, passes_at, users_at}
+use Rattle.ld_graph.specs.Items.{Item, Items, Names, files_of, names_at, with_names_at}
+use Rattle.ld_graph.specs.Inside.Linking.{IsKey, IsLinked, Uses, file_of, item_of, items_of, keys_in}
+use Rattle.ld_graph.specs.Inside.Nodes.{Forgets, KeepsNames, Learns, Nodes, key_of, name_at, name_of, names_with, number_in, passes, passes_at, users_at}
 use Rattle.ld_graph.specs.declared.node.Node.{Node}
 use Rattle.ld_graph.specs.declared.node.Text.{Text}
 use Rattle.ld_graph.proofs.FoundBy.{contains_map, made_by}
@@ -151,60 +151,56 @@ module _ (old new : Nodes) (keys : List (List ℕ × ℕ)) (texts : List Text) (
 
   users_forgotten : Forgets old new (unwrap_or (keys_in one) []) text → (key user : ℕ) (name : List ℕ) → name_at old key ≡ Some name → Contains (users_at new key) user ↔ Uses (with_names_at items text None) user name
   users_forgotten forgets key user name is =
-      let node = linked.nodes_are key name is in
-      (
+      let node = linked.nodes_are key name is in (
         (λ c.
-        let both = (forgets.users key user).0 c in
-        let used = (node.users_are user).0 both.0 in
-        ⊎_elim
-        (λ equal.
+            let both = (forgets.users key user).0 c in
+            let used = (node.users_are user).0 both.0 in
+            ⊎_elim
+            (λ equal.
             let names = ap (names_at items) equal ∙ names_were in
             let listed = subst (λ ns. Contains ns name) (ap (λ ns. unwrap_or ns []) names ∙ listed_names old (keys_in one)) used in
             absurd (both.1 (in_keys old keys texts linked (unwrap_or (keys_in one) []) (λ k has. linked.named text one k at has) key name is listed) equal))
-        (λ differs. (uses_elsewhere None user name differs).1 used) (same_or_not user text)),
+            (λ differs. (uses_elsewhere None user name differs).1 used) (same_or_not user text)),
         (λ u. ⊎_elim
-        (λ equal. absurd (none_in name ((uses_there None user name equal).0 u)))
-        (λ differs. (forgets.users key user).1 ((node.users_are user).1 ((uses_elsewhere None user name differs).0 u), λ has equal. differs equal))
-        (same_or_not user text)),
+            (λ equal. absurd (none_in name ((uses_there None user name equal).0 u)))
+            (λ differs. (forgets.users key user).1 ((node.users_are user).1 ((uses_elsewhere None user name differs).0 u), λ has equal. differs equal))
+            (same_or_not user text)),
       )
 
   users_learnt : names_at items text ≡ None → (own : List ℕ) → ((key : ℕ) → Contains own key → IsKey old key) → Learns old new own text → (key user : ℕ) (name : List ℕ) → name_at old key ≡ Some name → Contains (users_at new key) user ↔ Uses (with_names_at items text (Some (map (name_of old) own))) user name
   users_learnt none own known learns key user name is =
       let node = linked.nodes_are key name is in
-      let names : Names = Some (map (name_of old) own) in
-      (
+      let names : Names = Some (map (name_of old) own) in (
         (λ c. ⊎_elim
-        (λ was.
+            (λ was.
             let used = (node.users_are user).0 was in
             ⊎_elim
             (λ equal. absurd (none_in name (subst (λ ns. Contains (unwrap_or ns []) name) (ap (names_at items) equal ∙ none) used)))
             (λ differs. (uses_elsewhere names user name differs).1 used) (same_or_not user text))
-        (λ more. (uses_there names user name more.1).1 (in_names old own key name is more.0))
-        ((learns.users key user).0 c)),
+            (λ more. (uses_there names user name more.1).1 (in_names old own key name is more.0))
+            ((learns.users key user).0 c)),
         (λ u. ⊎_elim
-        (λ equal. (learns.users key user).1 (inr (in_keys old keys texts linked own known key name is ((uses_there names user name equal).0 u), equal)))
-        (λ differs. (learns.users key user).1 (inl ((node.users_are user).1 ((uses_elsewhere names user name differs).0 u))))
-        (same_or_not user text)),
+            (λ equal. (learns.users key user).1 (inr (in_keys old keys texts linked own known key name is ((uses_there names user name equal).0 u), equal)))
+            (λ differs. (learns.users key user).1 (inl ((node.users_are user).1 ((uses_elsewhere names user name differs).0 u))))
+            (same_or_not user text)),
       )
 
   pub still_forgotten : Forgets old new (unwrap_or (keys_in one) []) text → (two : Text) → two.folder ≡ one.folder → two.name ≡ one.name → two.names ≡ None → IsLinked new keys (set texts text two) × (items_of new (set texts text two) ≡ with_names_at items text None)
   still_forgotten forgets two folder name none =
       let no_keys : keys_in two ≡ None = ap (option_map (λ own. own.items)) none in
-      let no_names : option_map (map (name_of old)) (keys_in two) ≡ None = ap (option_map (map (name_of old))) no_keys in
-      (
+      let no_names : option_map (map (name_of old)) (keys_in two) ≡ None = ap (option_map (map (name_of old))) no_keys in (
         linked_still old new forgets.same texts text one two at folder name keys linked
-        (λ key has. absurd (none_in key (subst (λ own. Contains (unwrap_or own []) key) no_keys has)))
-        (λ key user which is. subst (λ names. Contains (users_at new key) user ↔ Uses (with_names_at items text names) user which) (sym no_names) (users_forgotten forgets key user which is)),
+            (λ key has. absurd (none_in key (subst (λ own. Contains (unwrap_or own []) key) no_keys has)))
+            (λ key user which is. subst (λ names. Contains (users_at new key) user ↔ Uses (with_names_at items text names) user which) (sym no_names) (users_forgotten forgets key user which is)),
         items_are old new forgets.same texts text one two at folder name ∙ ap (with_names_at items text) no_names,
       )
 
   pub still_learnt : names_at items text ≡ None → (own : List ℕ) → ((key : ℕ) → Contains own key → IsKey old key) → Learns old new own text → (two : Text) → two.folder ≡ one.folder → two.name ≡ one.name → keys_in two ≡ Some own → IsLinked new keys (set texts text two) × (items_of new (set texts text two) ≡ with_names_at items text (Some (map (name_of old) own)))
   still_learnt none own known learns two folder name has_keys =
-      let its_names : option_map (map (name_of old)) (keys_in two) ≡ Some (map (name_of old) own) = ap (option_map (map (name_of old))) has_keys in
-      (
+      let its_names : option_map (map (name_of old)) (keys_in two) ≡ Some (map (name_of old) own) = ap (option_map (map (name_of old))) has_keys in (
         linked_still old new learns.same texts text one two at folder name keys linked
-        (λ key has. known key (subst (λ keys. Contains (unwrap_or keys []) key) has_keys has))
-        (λ key user which is. subst (λ names. Contains (users_at new key) user ↔ Uses (with_names_at items text names) user which) (sym its_names) (users_learnt none own known learns key user which is)),
+            (λ key has. known key (subst (λ keys. Contains (unwrap_or keys []) key) has_keys has))
+            (λ key user which is. subst (λ names. Contains (users_at new key) user ↔ Uses (with_names_at items text names) user which) (sym its_names) (users_learnt none own known learns key user which is)),
         items_are old new learns.same texts text one two at folder name ∙ ap (with_names_at items text) its_names,
       )
 

@@ -1,6 +1,6 @@
 -- Heights that rise by single references.
-use Rattle.std.proofs.Common.{◌≡◌, ◌≢◌, ◌≤◌, ◌<◌, ◌+◌, ◌-◌, ◌*◌, ◌⊎◌, ℕ, zero, suc, min, max, Bool, true, false, List, [], ◌∷◌, Option, Some, None, length, get_or, set, inl, inr, ⊎_elim, refl, sym, ap, ap₂, ◌∙◌, subst, arith, length-set, get_or-set_same, get_or-set_other}
-use Rattle.std.proofs.lemmas.Bool.{cases_eq, cases_lt}
+use Rattle.std.proofs.Common.{◌≡◌, ◌≢◌, ◌≤◌, ◌<◌, ◌+◌, ◌-◌, ◌*◌, ◌⊎◌, ℕ, zero, suc, min, List, [], ◌∷◌, Option, Some, None, length, get_or, set, inl, inr, ⊎_elim, refl, sym, ap, ◌∙◌, subst, arith, length-set, get_or-set_same, get_or-set_other}
+use Rattle.std.proofs.lemmas.Bool.{cases_eq}
 use Rattle.std.proofs.lemmas.List.Sums.{sum_by-set}
 use Rattle.std.proofs.lemmas.Nat.{mul-add-lt}
 use Rattle.std.specs.List.{Contains}
@@ -8,7 +8,7 @@ use Rattle.std.specs.Option.{option_map_or, unwrap_or}
 use Rattle.ld_graph.specs.Inside.Marking.{IsListed, IsMarked, Marked, MarksMore}
 use Rattle.ld_graph.specs.Inside.Rising.{AreBelow, AreRight, AreSettled, HasFloor, IsSettled, Raises, height_in, slack}
 use Rattle.ld_graph.specs.Web.{Refers, Web, children_of, height, over, over_children, tallest}
-use Rattle.ld_graph.proofs.Heights.{heights_are, none_is_too_low, over_mono, stays_below}
+use Rattle.ld_graph.proofs.Heights.{heights_are, none_is_too_low, stays_below}
 use Rattle.ld_graph.proofs.Listed.{here, there}
 use Rattle.ld_graph.proofs.Marked.{on, only}
 

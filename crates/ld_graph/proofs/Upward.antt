@@ -1,8 +1,7 @@
 -- Marks that go up from the first ones.
-use Rattle.std.proofs.Common.{◌≡◌, ◌<◌, ◌≤◌, ◌+◌, ◌⊎◌, ℕ, zero, suc, Bool, true, false, List, [], ◌∷◌, length, get_or, inl, inr, ⊎_elim, refl, sym, ap, ◌∙◌, subst, arith, below_more}
+use Rattle.std.proofs.Common.{◌≡◌, ◌<◌, ◌≤◌, ◌+◌, ◌⊎◌, ℕ, Bool, List, [], ◌∷◌, length, get_or, ⊎_elim, sym, ◌∙◌, subst, arith, below_more}
 use Rattle.std.proofs.lemmas.List.{get_or_default}
 use Rattle.std.proofs.lemmas.List.Sums.{count_by-le-length}
-use Rattle.std.specs.List.{Contains}
 use Rattle.ld_graph.specs.Inside.Marking.{IsListed, IsMarked, Marked, MarksMore}
 use Rattle.ld_graph.specs.Web.{IsWalk, Reaches, Refers, Web, end_of}
 use Rattle.ld_graph.proofs.Marked.{front_same, marked_below, on, only}

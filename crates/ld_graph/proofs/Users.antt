@@ -1,5 +1,5 @@
 -- Texts that refer by a name or no longer do.
-use Rattle.std.proofs.Common.{◌≡◌, ◌==◌, ◌<◌, ◌++◌, ◌⊎◌, ℕ, zero, suc, List, [], ◌∷◌, Option, Some, None, Bor, MutBor, map, length, get_or, set, inl, inr, ⊎_elim, refl, sym, ap, ◌∙◌, subst, arith}
+use Rattle.std.proofs.Common.{◌≡◌, ◌++◌, ◌⊎◌, ℕ, zero, suc, List, [], ◌∷◌, Option, Some, None, Bor, MutBor, map, get_or, set, inl, inr, ⊎_elim, refl, sym, ap, ◌∙◌, subst}
 use Rattle.std.proofs.lemmas.Bool.Decides.{eqb_tells}
 use Rattle.std.proofs.lemmas.List.Elements.{Contains-append_left, Contains-append_right, Contains-push_cases}
 use Rattle.std.specs.Prelude.{◌↔◌, false, true}
@@ -7,9 +7,9 @@ use Rattle.std.specs.List.{Contains}
 use Rattle.std.proofs.lemmas.List.{map-append}
 use Rattle.std.specs.Option.{IsSome, option_copied, option_copied_mut, option_map, option_map_or}
 use Rattle.slab.specs.Slab.{get, with_value}
-use Rattle.ld_graph.specs.Inside.Nodes.{AreKeysOf, CanAdd, CanAddAt, Forgets, KeepsNames, Learns, Nodes, has_spare, key_of, name_at, numbers_at, passes_at, users_at}
+use Rattle.ld_graph.specs.Inside.Nodes.{AreKeysOf, CanAdd, Forgets, KeepsNames, Learns, Nodes, has_spare, key_of, passes_at, users_at}
 use Rattle.ld_graph.specs.declared.node.Node.{Node}
-use Rattle.ld_graph.proofs.Listed.{first_or, here, none_in, there}
+use Rattle.ld_graph.proofs.Listed.{first_or, here, none_in}
 
 -- ---- the node at one key is another
 
@@ -59,15 +59,15 @@ module _ (nodes : Nodes) (key : ℕ) (old new : Node) (is : get nodes key ≡ So
     learnt name numbers users room = record {
       same = keeps_names name numbers;
       users = λ other user. ⊎_elim
-      (λ equal. subst (λ k. Contains (users_at after k) user ↔ (Contains (users_at nodes k) user ⊎ Contains (key ∷ []) k × (user ≡ text))) (sym equal) (
-        (λ c. ⊎_elim (λ was. inl (subst (λ node. Contains (users_in node) user) (sym is) was)) (λ same. inr (here key [], same)) ((users user).0 (subst (λ node. Contains (users_in node) user) at_key c))),
-        (λ either. subst (λ node. Contains (users_in node) user) (sym at_key) ((users user).1 (⊎_elim (λ was. inl (subst (λ node. Contains (users_in node) user) is was)) (λ more. inr more.1) either))),
-      ))
-      (λ differs. (
-        (λ c. inl (subst (λ node. Contains (users_in node) user) (at_other other differs) c)),
-        (λ either. subst (λ node. Contains (users_in node) user) (sym (at_other other differs)) (⊎_elim (λ was. was) (λ more. absurd (⊎_elim (λ same. differs (sym same)) (none_in other) (first_or other key [] more.0))) either)),
-      ))
-      (same_or_not other key);
+          (λ equal. subst (λ k. Contains (users_at after k) user ↔ (Contains (users_at nodes k) user ⊎ Contains (key ∷ []) k × (user ≡ text))) (sym equal) (
+            (λ c. ⊎_elim (λ was. inl (subst (λ node. Contains (users_in node) user) (sym is) was)) (λ same. inr (here key [], same)) ((users user).0 (subst (λ node. Contains (users_in node) user) at_key c))),
+            (λ either. subst (λ node. Contains (users_in node) user) (sym at_key) ((users user).1 (⊎_elim (λ was. inl (subst (λ node. Contains (users_in node) user) is was)) (λ more. inr more.1) either))),
+          ))
+          (λ differs. (
+            (λ c. inl (subst (λ node. Contains (users_in node) user) (at_other other differs) c)),
+            (λ either. subst (λ node. Contains (users_in node) user) (sym (at_other other differs)) (⊎_elim (λ was. was) (λ more. absurd (⊎_elim (λ same. differs (sym same)) (none_in other) (first_or other key [] more.0))) either)),
+          ))
+          (same_or_not other key);
       room = λ other can. ⊎_elim (λ equal. (new, ap (get after) equal ∙ at_key, room)) (λ differs. (can.0, at_other other differs ∙ can.1, can.2)) (same_or_not other key);
     }
 
@@ -75,18 +75,18 @@ module _ (nodes : Nodes) (key : ℕ) (old new : Node) (is : get nodes key ≡ So
     forgotten name numbers users spare = record {
       same = keeps_names name numbers;
       users = λ other user. ⊎_elim
-      (λ equal. subst (λ k. Contains (users_at after k) user ↔ Contains (users_at nodes k) user × (Contains (key ∷ []) k → (user ≡ text) → ⊥)) (sym equal) (
-        (λ c. let both = (users user).0 (subst (λ node. Contains (users_in node) user) at_key c) in (subst (λ node. Contains (users_in node) user) (sym is) both.0, λ in_keys. both.1)),
-        (λ both. subst (λ node. Contains (users_in node) user) (sym at_key) ((users user).1 (subst (λ node. Contains (users_in node) user) is both.0, both.1 (here key [])))),
-      ))
-      (λ differs. (
-        (λ c. (subst (λ node. Contains (users_in node) user) (at_other other differs) c, λ in_keys. absurd (⊎_elim (λ same. differs (sym same)) (none_in other) (first_or other key [] in_keys)))),
-        (λ both. subst (λ node. Contains (users_in node) user) (sym (at_other other differs)) both.0),
-      ))
-      (same_or_not other key);
+          (λ equal. subst (λ k. Contains (users_at after k) user ↔ Contains (users_at nodes k) user × (Contains (key ∷ []) k → (user ≡ text) → ⊥)) (sym equal) (
+            (λ c. let both = (users user).0 (subst (λ node. Contains (users_in node) user) at_key c) in (subst (λ node. Contains (users_in node) user) (sym is) both.0, λ in_keys. both.1)),
+            (λ both. subst (λ node. Contains (users_in node) user) (sym at_key) ((users user).1 (subst (λ node. Contains (users_in node) user) is both.0, both.1 (here key [])))),
+          ))
+          (λ differs. (
+            (λ c. (subst (λ node. Contains (users_in node) user) (at_other other differs) c, λ in_keys. absurd (⊎_elim (λ same. differs (sym same)) (none_in other) (first_or other key [] in_keys)))),
+            (λ both. subst (λ node. Contains (users_in node) user) (sym (at_other other differs)) both.0),
+          ))
+          (same_or_not other key);
       spare = λ other has. ⊎_elim
-      (λ equal. ap (λ k. passes_at has_spare after k) equal ∙ ap (λ node. option_map_or has_spare node false) at_key ∙ spare (sym (ap (λ node. option_map_or has_spare node false) is) ∙ sym (ap (λ k. passes_at has_spare nodes k) equal) ∙ has))
-      (λ differs. ap (λ node. option_map_or has_spare node false) (at_other other differs) ∙ has) (same_or_not other key);
+          (λ equal. ap (λ k. passes_at has_spare after k) equal ∙ ap (λ node. option_map_or has_spare node false) at_key ∙ spare (sym (ap (λ node. option_map_or has_spare node false) is) ∙ sym (ap (λ k. passes_at has_spare nodes k) equal) ∙ has))
+          (λ differs. ap (λ node. option_map_or has_spare node false) (at_other other differs) ∙ has) (same_or_not other key);
     }
 
 -- ---- one text more or less among the users of several names
@@ -107,9 +107,9 @@ module _ (first second third : Nodes) (keys : List ℕ) (key text : ℕ) where
     same = then_keeps first second third one.same two.same;
     users = λ other user. (
       (λ c.
-      let behind = (two.users other user).0 c in
-      let before = (one.users other user).0 behind.0 in
-      (before.0, λ in_keys. ⊎_elim before.1 (λ same. behind.1 (subst (λ k. Contains (k ∷ []) other) (sym same) (here other []))) (Contains-push_cases keys key other in_keys))),
+          let behind = (two.users other user).0 c in
+          let before = (one.users other user).0 behind.0 in
+          (before.0, λ in_keys. ⊎_elim before.1 (λ same. behind.1 (subst (λ k. Contains (k ∷ []) other) (sym same) (here other []))) (Contains-push_cases keys key other in_keys))),
       (λ both. (two.users other user).1 ((one.users other user).1 (both.0, λ in_keys. both.1 (Contains-append_left keys (key ∷ []) other in_keys)), λ in_key. both.1 (Contains-append_right keys (key ∷ []) other in_key))),
     );
     spare = λ other has. two.spare other (one.spare other has);

@@ -1,5 +1,5 @@
 -- The dirt of a change, which is this project's own: the texts whose expansions it may alter.
-use Rattle.std.specs.Prelude.{◌≡◌, ◌≢◌, ◌⊎◌, ℕ, List, Option, Some, None, slice_get}
+use Rattle.std.specs.Prelude.{◌≡◌, ◌≢◌, ◌⊎◌, ℕ, List, Some, None, slice_get}
 use Rattle.std.specs.List.{Contains}
 use Rattle.ld_names.specs.Standing.{folders_of}
 use Rattle.ld_names.specs.declared.file.FileId.{FileId}

@@ -1,6 +1,6 @@
 -- What a graph knows of the texts, by number: the file, and the names of its references or None of an absent one. Which
 -- text a name finds: File Format 1.0.2 ("Line Type 1") names the library's folders; the order is this project's own.
-use Rattle.std.specs.Prelude.{◌≡◌, ℕ, Bool, true, false, List, [], ◌∷◌, ◌++◌, Option, Some, None, map, option_map, option_and_then, position, slice_get, slice_set}
+use Rattle.std.specs.Prelude.{ℕ, Bool, true, false, List, [], ◌∷◌, Option, Some, None, map, option_map, option_and_then, position, slice_get, slice_set}
 use Rattle.std.specs.List.{filter_map}
 use Rattle.std.specs.Option.{is_some, option_map_or}
 use Rattle.ld_names.specs.Standing.{file_in, folders_of, same_file}

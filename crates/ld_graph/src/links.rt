@@ -133,7 +133,8 @@ impl Links {
         }
         let node = Node::new(alloc, name)?;
         self.nodes.reserve(1)?;
-        self.keys.insert(name.copy(alloc)?, self.nodes.vacant_key())?;
+        self.keys
+            .insert(name.copy(alloc)?, self.nodes.vacant_key())?;
         self.nodes.insert_reserved(node);
         Ok(())
     }
@@ -147,7 +148,13 @@ fn node_of<'a>(nodes: &'a Slab<Node>, texts: &[Text], text: u32) -> Option<&'a N
 }
 
 // The greatest of the heights of what the names find.
-fn tallest_found(nodes: &Slab<Node>, texts: &[Text], heights: &[u8], keys: &[usize], from: Folder) -> u8
+fn tallest_found(
+    nodes: &Slab<Node>,
+    texts: &[Text],
+    heights: &[u8],
+    keys: &[usize],
+    from: Folder,
+) -> u8
     ensures { result ≡ tallest (λ other. get_or heights.now other 0) (filter_map (found_at nodes.now texts.now from) keys.now) }
 {
     let mut most = 0;

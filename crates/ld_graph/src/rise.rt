@@ -97,7 +97,13 @@ fn rise(links: &Links, heights: &mut Vec<u8>, marks: &mut Marks, cap: u8)
 }
 
 // Raises all texts to their heights after a text was learnt, which is as low as can be.
-pub(crate) fn raise_learnt(links: &Links, heights: &mut Vec<u8>, marks: &mut Marks, text: u32, cap: u8)
+pub(crate) fn raise_learnt(
+    links: &Links,
+    heights: &mut Vec<u8>,
+    marks: &mut Marks,
+    text: u32,
+    cap: u8,
+)
     requires within { text < length links.now.items }
     requires size { length heights.old.items ≡ length links.now.items }
     requires marks { length marks.old.marks ≡ length links.now.items }

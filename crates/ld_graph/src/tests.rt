@@ -8,6 +8,9 @@ ghost use Rattle.ld_graph.specs.Resolving.{resolved_from};
 ghost use Rattle.ld_graph.specs.Web.{height};
 ghost use Rattle.ld_graph.specs.declared.resolving.Resolved.TheVariants.{Absent, Text, Unknown};
 
+mod plain;
+mod worlds;
+
 use crate::{Dirty, Graph, GraphReady, Reader};
 
 fn crosses_threads<T: Send + Sync>() {}

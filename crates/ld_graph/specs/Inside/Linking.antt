@@ -1,5 +1,5 @@
 -- Texts whose references are kept by the keys of their names.
-use Rattle.std.specs.Prelude.{◌≡◌, ◌↔◌, ◌≤◌, ℕ, Bool, true, List, [], Option, Some, None, All, bytes_eq, length, map, option_and_then, option_map, slice_get, unwrap_or, Vec}
+use Rattle.std.specs.Prelude.{◌≡◌, ◌↔◌, ◌≤◌, ℕ, Bool, true, List, [], Option, Some, All, bytes_eq, map, option_and_then, option_map, slice_get, unwrap_or, Vec}
 use Rattle.std.specs.declared.alloc.Global.{Global}
 use Rattle.std.specs.List.{Contains, list_any}
 use Rattle.std.specs.Option.{is_some}

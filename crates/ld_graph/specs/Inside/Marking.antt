@@ -1,5 +1,5 @@
 -- Marked texts: a mark for each text, and the list of the marked ones.
-use Rattle.std.specs.Prelude.{◌≡◌, ◌==◌, ◌++◌, ◌⊎◌, ℕ, Bool, true, false, List, length, get_or, count_by, if◌then◌else◌}
+use Rattle.std.specs.Prelude.{◌≡◌, ◌==◌, ◌++◌, ℕ, Bool, true, false, List, length, get_or, count_by, if◌then◌else◌}
 
 -- the marks, the marked texts in the order in which they were marked, and for how many more texts there is room
 pub record Marked : Type 0 where

@@ -1,8 +1,8 @@
 -- Names as nodes: the numbers of the files that have a name, by their folders, and the texts that refer by it.
-use Rattle.std.specs.Prelude.{◌≡◌, ◌<◌, ◌⊎◌, ◌↔◌, ◌&&◌, ◌-◌, ℕ, Bool, true, false, List, [], Option, Some, None, IfSome, length, map, nat_lt, option_map, slice_get, unwrap_or, filter}
+use Rattle.std.specs.Prelude.{◌≡◌, ◌<◌, ◌⊎◌, ◌↔◌, ◌-◌, ℕ, Bool, true, false, List, [], Option, Some, length, map, nat_lt, option_map, slice_get, unwrap_or, filter}
 use Rattle.std.specs.BTreeMap.{is_at}
 use Rattle.std.specs.Cmp.Lexicographic.{slice_cmp}
-use Rattle.std.specs.List.{All, Contains}
+use Rattle.std.specs.List.{Contains}
 use Rattle.std.specs.Map.{lookup}
 use Rattle.std.specs.Option.{option_map_or}
 use Rattle.std.specs.Ordering.{nat_cmp}

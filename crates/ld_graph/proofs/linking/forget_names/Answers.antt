@@ -1,4 +1,4 @@
-use Rattle.std.proofs.Common.{ℕ, List, get_or, length, take, sym, subst, arith}
+use Rattle.std.proofs.Common.{ℕ, List, get_or, take, sym, subst, arith}
 use Rattle.std.proofs.lemmas.List.{take_all, take_more}
 use Rattle.ld_graph.specs.Inside.Nodes.{Forgets}
 use Rattle.ld_graph.proofs.Users.{forgets_more, forgets_none}

@@ -1,9 +1,8 @@
-use Rattle.std.proofs.Common.{◌≡◌, ◌<◌, ◌+◌, ◌++◌, ◌∷◌, [], ℕ, List, Option, Some, Bor, get_or, length, map, take, refl, sym, ap, ◌∙◌, subst, arith, rules}
+use Rattle.std.proofs.Common.{◌≡◌, ◌<◌, ◌+◌, ◌++◌, ◌∷◌, [], ℕ, List, Some, get_or, length, map, take, sym, ap, ◌∙◌, subst, arith}
 use Rattle.std.proofs.lemmas.List.{length_push, take_all, take_more}
 use Rattle.std.specs.Prelude.{if◌then◌else◌}
 use Rattle.std.specs.Option.{option_copied}
 use Rattle.std.specs.Result.{is_ok}
-use Rattle.slab.specs.Slab.{get}
 use Rattle.ld_graph.specs.Inside.Nodes.{AreKeysOf, CanAddAt, CanLearn, Learns, key_of}
 use Rattle.ld_graph.proofs.Users.{copied_some, keys_more, learns_more, learns_none}
 use Rattle.ld_graph.proofs.linking.learn_names.Goals as goal

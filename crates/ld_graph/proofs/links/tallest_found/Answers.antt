@@ -1,8 +1,6 @@
-use Rattle.std.proofs.Common.{◌≡◌, ◌<◌, ◌∙◌, ℕ, max, length, get_or, take, sym, ap, arith}
-use Rattle.std.specs.List.{filter_map}
+use Rattle.std.proofs.Common.{◌∙◌, ℕ, max, get_or, sym, ap, arith}
 use Rattle.std.specs.Option.{option_map_or}
 use Rattle.ld_graph.specs.Inside.Linking.{found_at}
-use Rattle.ld_graph.specs.Web.{tallest}
 use Rattle.ld_graph.proofs.FoundBy.{tallest-found_more}
 use Rattle.ld_graph.proofs.links.tallest_found.Goals as goal
 

@@ -1,5 +1,4 @@
-use Rattle.std.proofs.Common.{◌≡◌, ◌∙◌, ◌∷◌, Bool, true, false, inl, inr, ⊎_elim, refl, sym, ap, ap₂, subst, rules, true≢false}
-use Rattle.std.proofs.lemmas.Bool.{and_parts}
+use Rattle.std.proofs.Common.{◌≡◌, ◌∙◌, ◌∷◌, false, ⊎_elim, sym, ap, subst, rules, true≢false}
 use Rattle.std.specs.List.{Contains}
 use Rattle.ld_names.specs.Standing.{same_folder}
 use Rattle.ld_graph.proofs.Folders.{same_folder-refl}

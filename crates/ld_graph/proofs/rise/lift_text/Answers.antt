@@ -1,4 +1,4 @@
-use Rattle.std.proofs.Common.{◌≡◌, ◌≤◌, ◌∙◌, ℕ, min, get_or, ap, arith}
+use Rattle.std.proofs.Common.{◌≡◌, ◌∙◌, min, get_or, ap, arith}
 use Rattle.ld_graph.specs.Inside.Rising.{height_in}
 use Rattle.ld_graph.specs.Items.{web_of}
 use Rattle.ld_graph.specs.Web.{over}

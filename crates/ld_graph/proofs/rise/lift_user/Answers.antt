@@ -1,4 +1,4 @@
-use Rattle.std.proofs.Common.{◌≡◌, ◌∙◌, Some, min, suc, ap, sym, arith}
+use Rattle.std.proofs.Common.{◌≡◌, ◌∙◌, min, suc, ap, arith}
 use Rattle.std.specs.Option.{option_map_or}
 use Rattle.ld_graph.specs.Inside.Linking.{found_by_name}
 use Rattle.ld_graph.specs.Inside.Rising.{height_in}

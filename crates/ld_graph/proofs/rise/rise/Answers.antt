@@ -1,4 +1,4 @@
-use Rattle.std.proofs.Common.{◌≡◌, ◌∙◌, ◌<◌, ◌≤◌, ◌+◌, ◌*◌, ◌⊎◌, ℕ, suc, min, false, true, [], inl, inr, ⊎_elim, get_or, set, length, refl, sym, subst, ap, ap₂, arith, length-set, get_or-set_other}
+use Rattle.std.proofs.Common.{◌≡◌, ◌∙◌, ◌<◌, ◌*◌, ℕ, suc, min, false, ⊎_elim, get_or, length, sym, subst, ap, ap₂, arith, length-set, get_or-set_other}
 use Rattle.ld_graph.specs.Inside.Marking.{IsMarked, Marked}
 use Rattle.ld_graph.specs.Inside.Rising.{IsSettled, slack}
 use Rattle.ld_graph.specs.Items.{web_of}

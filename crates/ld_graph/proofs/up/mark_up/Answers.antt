@@ -1,4 +1,4 @@
-use Rattle.std.proofs.Common.{◌≡◌, ◌∙◌, ◌<◌, [], get_or, length, refl, sym, arith}
+use Rattle.std.proofs.Common.{◌<◌, [], get_or, length, refl, arith}
 use Rattle.std.proofs.lemmas.List.{get_or_default}
 use Rattle.ld_graph.specs.Items.{web_of}
 use Rattle.ld_graph.proofs.Marked.{longer_len, more_more, more_none}

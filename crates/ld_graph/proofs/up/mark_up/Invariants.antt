@@ -1,4 +1,4 @@
-use Rattle.std.proofs.Common.{◌≡◌, ◌≤◌, ◌-◌, length}
+use Rattle.std.proofs.Common.{◌≤◌, ◌-◌, length}
 use Rattle.ld_graph.specs.Items.{web_of}
 use Rattle.ld_graph.specs.Inside.Marking.{MarksMore}
 use Rattle.ld_graph.proofs.Upward.{IsClosedTo, LeadsToFirst}

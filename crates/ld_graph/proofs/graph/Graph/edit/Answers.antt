@@ -1,13 +1,10 @@
-use Rattle.std.proofs.Common.{◌≡◌, ◌∙◌, ◌⊎◌, ◌<◌, ◌^◌, ◌+◌, length, arith, ℕ, Bool, Option, false, true, suc, add-one, inl, inr, ⊎_elim, get_or, ap, sym, subst, option_map, rules}
-use Rattle.std.specs.Option.{IsSomeAnd, is_some, option_map_or}
-use Rattle.ld_names.specs.declared.file.TextId.{TextId}
-use Rattle.ld_graph.specs.Changing.{IsDirty, NamesText}
-use Rattle.ld_graph.specs.Dirt.{is_dirty}
-use Rattle.ld_graph.specs.Inside.Marking.{IsListed, IsMarked, Marked}
-use Rattle.ld_graph.specs.Inside.Rising.{AreRight, height_in}
-use Rattle.ld_graph.specs.Items.{Items, names_at, web_of}
-use Rattle.ld_graph.specs.Seen.{Editing, IsEditOf, changed_by, items_edited}
-use Rattle.ld_graph.specs.Web.{height}
+use Rattle.std.proofs.Common.{◌≡◌, ◌∙◌, ◌<◌, ◌^◌, ◌+◌, length, arith, ℕ, suc, add-one, inl, inr, ⊎_elim, ap, sym, subst}
+use Rattle.std.specs.Option.{is_some}
+use Rattle.ld_graph.specs.Changing.{NamesText}
+use Rattle.ld_graph.specs.Inside.Marking.{IsListed, IsMarked}
+use Rattle.ld_graph.specs.Inside.Rising.{AreRight}
+use Rattle.ld_graph.specs.Items.{names_at, web_of}
+use Rattle.ld_graph.specs.Seen.{IsEditOf, items_edited}
 use Rattle.ld_graph.specs.contracts.changes.Editing.{the_view as editing_view}
 use Rattle.ld_graph.proofs.Edited.{dirt_marked, edited_items, edited_length, gone_marks, gone_or, others_right, turned_view, went_is}
 use Rattle.ld_graph.proofs.Marked.{none_marked}

@@ -1,11 +1,8 @@
-use Rattle.std.proofs.Common.{◌≡◌, ◌+◌, ◌++◌, ◌∷◌, ◌∙◌, ℕ, suc, List, Some, None, [], length, option_map, ap, ap₂, refl, sym, subst, arith, rules}
+use Rattle.std.proofs.Common.{◌≡◌, ◌+◌, ◌++◌, ◌∷◌, ◌∙◌, None, [], length, option_map, ap, ap₂, arith}
 use Rattle.std.specs.Prelude.{if◌then◌else◌}
 use Rattle.std.specs.Result.{is_ok}
-use Rattle.ld_graph.specs.Items.{Items, number_of, web_of}
-use Rattle.ld_graph.specs.Inside.Linking.{RefersByName}
-use Rattle.ld_graph.specs.Inside.Rising.{AreBelow, HasFloor, IsSettled}
-use Rattle.ld_graph.specs.Seen.{Learning, items_learnt}
-use Rattle.ld_graph.specs.Web.{Refers}
+use Rattle.ld_graph.specs.Items.{number_of}
+use Rattle.ld_graph.specs.Seen.{items_learnt}
 use Rattle.ld_graph.proofs.Learning.{CanRaise, can_raise, learnt_items}
 use Rattle.ld_graph.proofs.graph.Graph.learn.Goals as goal
 

@@ -1,4 +1,4 @@
-use Rattle.std.proofs.Common.{◌≡◌, ◌∙◌, [], suc, length, refl, ap, sym, arith}
+use Rattle.std.proofs.Common.{suc, length, refl, ap, sym, arith}
 use Rattle.ld_graph.proofs.Heights.{height_past}
 use Rattle.ld_graph.proofs.graph.Graph.new.Goals as goal
 

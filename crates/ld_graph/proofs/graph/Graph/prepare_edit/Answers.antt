@@ -1,6 +1,6 @@
-use Rattle.std.proofs.Common.{◌≡◌, ◌≤◌, ◌<◌, ◌-◌, min, length, sym, ap, subst, arith, rules, vec_capacity}
+use Rattle.std.proofs.Common.{◌-◌, min, length, sym, ap, subst, arith, vec_capacity}
 use Rattle.std.proofs.lemmas.Result.{IfOk-weaker}
-use Rattle.ld_graph.specs.Seen.{Editing, HasRoomToEdit}
+use Rattle.ld_graph.specs.Seen.{HasRoomToEdit}
 use Rattle.ld_graph.proofs.Preparing.{graph_of, keeps_graph}
 use Rattle.ld_graph.proofs.graph.Graph.prepare_edit.Goals as goal
 

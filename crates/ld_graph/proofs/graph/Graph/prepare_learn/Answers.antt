@@ -1,6 +1,6 @@
-use Rattle.std.proofs.Common.{◌≡◌, ◌≤◌, ◌<◌, ◌-◌, min, length, sym, ap, subst, arith, rules, vec_capacity}
+use Rattle.std.proofs.Common.{◌-◌, min, length, sym, ap, subst, arith, vec_capacity}
 use Rattle.std.proofs.lemmas.Result.{IfOk-weaker}
-use Rattle.ld_graph.specs.Seen.{HasRoomToLearn, Learning}
+use Rattle.ld_graph.specs.Seen.{HasRoomToLearn}
 use Rattle.ld_graph.proofs.Preparing.{graph_of, keeps_graph}
 use Rattle.ld_graph.proofs.graph.Graph.prepare_learn.Goals as goal
 

@@ -1,11 +1,11 @@
-use Rattle.std.proofs.Common.{◌≡◌, ◌++◌, ◌∷◌, ◌∙◌, ◌<◌, ℕ, List, Some, None, [], true, length, ap, refl, sym, subst, arith}
+use Rattle.std.proofs.Common.{◌≡◌, ◌++◌, ◌∷◌, ◌∙◌, Some, None, [], true, length, ap, refl, sym, subst, arith}
 use Rattle.std.specs.Prelude.{bytes_eq, if◌then◌else◌}
 use Rattle.std.specs.List.{list_any}
 use Rattle.std.specs.Option.{option_copied, option_copied_mut}
 use Rattle.std.specs.Result.{is_ok}
 use Rattle.slab.specs.Slab.{get, with_value}
 use Rattle.ld_graph.specs.Inside.Linking.{IsLinked, items_of}
-use Rattle.ld_graph.specs.Inside.Nodes.{has_space, has_spare, key_of, names_with}
+use Rattle.ld_graph.specs.Inside.Nodes.{has_space, has_spare, key_of}
 use Rattle.ld_graph.specs.declared.node.Text.{Text}
 use Rattle.ld_graph.proofs.Added.{items_are, linked_more, spares_stay}
 use Rattle.ld_graph.proofs.Naming.{node_with}

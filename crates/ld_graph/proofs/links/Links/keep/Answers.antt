@@ -1,11 +1,11 @@
-use Rattle.std.proofs.Common.{◌≡◌, ◌∙◌, ◌≤◌, ℕ, List, Option, Some, None, Bool, cond, true, refl, sym, ap, subst, rules, arith}
+use Rattle.std.proofs.Common.{◌≡◌, ◌∙◌, ℕ, List, Option, Some, None, Bool, cond, true, refl, sym, ap, subst, arith}
 use Rattle.std.proofs.lemmas.Result.{on_ok_weaker}
 use Rattle.std.specs.List.{list_any}
 use Rattle.std.specs.Prelude.{bytes_eq}
 use Rattle.std.specs.Option.{is_some, option_copied_mut, option_map}
 use Rattle.slab.specs.Slab.{Updates, get, with_value}
-use Rattle.ld_graph.specs.Inside.Linking.{IsLinked, KeepsLinks, has_place as has_place_for, has_spare as has_spare_for, items_of}
-use Rattle.ld_graph.specs.Inside.Nodes.{Nodes, has_space, has_spare, key_of, name_at, names_with}
+use Rattle.ld_graph.specs.Inside.Linking.{IsLinked, KeepsLinks}
+use Rattle.ld_graph.specs.Inside.Nodes.{has_space, has_spare, key_of, names_with}
 use Rattle.ld_graph.specs.contracts.links.Links.{the_view}
 use Rattle.ld_graph.specs.declared.node.Node.{Node}
 use Rattle.ld_graph.proofs.Keeping.{alike_linked, further_items, further_linked, further_passes, further_place, more_names, more_passes, more_users, passes_now, roomier_items, roomier_linked, roomier_passes, same_name}
@@ -99,7 +99,7 @@ returns-clause-same c =
     let keys = c.self.inside.keys.entries in
     let texts = c.self.inside.texts.items in
     let passes : (test : Node → Bool) (other : List ℕ) → list_any (bytes_eq other) (names_with test nodes keys) ≡ true → list_any (bytes_eq other) (names_with test c.insert_reserved.new.self c.insert.new.self.entries) ≡ true = λ test other has. further_passes c.file_laws.ensures.same roomy keys texts (linked c) c.args.name.now (missing c) c.vacant_key.result c.in_ok-node.node c.insert_reserved.new.self c.vacant_key.ensures.vacant (updates c) e.name e.numbers e.users c.insert.new.self.entries (put c) test other
-        (roomier_passes nodes roomy roomy.capacity keys test other c.reserve-2.ensures.rest_kept has) in
+    (roomier_passes nodes roomy roomy.capacity keys test other c.reserve-2.ensures.rest_kept has) in
     let keeps : KeepsLinks (the_view c.self.inside) (the_view (record c.self.inside { nodes = c.insert_reserved.new.self; keys = c.insert.new.self })) = record {
       items = further_items c.file_laws.ensures.same roomy keys texts (linked c) c.args.name.now (missing c) c.vacant_key.result c.in_ok-node.node c.insert_reserved.new.self c.vacant_key.ensures.vacant (updates c) e.name e.numbers e.users c.insert.new.self.entries (put c)
           ∙ roomier_items nodes roomy roomy.capacity texts c.reserve-2.ensures.rest_kept;

@@ -1,6 +1,6 @@
-use Rattle.std.proofs.Common.{◌≡◌, ◌∙◌, ◌<◌, ℕ, List, true, get_or, below_more, arith, sym, subst}
+use Rattle.std.proofs.Common.{◌≡◌, ◌∙◌, ℕ, List, true, get_or, below_more, arith, subst}
 use Rattle.std.proofs.lemmas.List.{get_or_default}
-use Rattle.ld_graph.specs.Inside.Linking.{KeepsLinks, has_spare}
+use Rattle.ld_graph.specs.Inside.Linking.{has_spare}
 use Rattle.ld_graph.proofs.Keeping.{keeps_more, keeps_none}
 use Rattle.ld_graph.proofs.links.Links.keep_each.Goals as goal
 

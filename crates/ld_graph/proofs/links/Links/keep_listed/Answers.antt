@@ -1,6 +1,3 @@
-use Rattle.std.proofs.Common.{Some, ap, sym, subst}
-use Rattle.std.proofs.lemmas.Result.{on_ok_weaker}
-use Rattle.ld_graph.specs.Inside.Linking.{HaveSpares, names_listed}
 use Rattle.ld_graph.proofs.links.Links.keep_listed.Goals as goal
 
 pub returns-in-Some-clause-spares : goal.returns-in-Some-clause-spares

@@ -1,4 +1,3 @@
-use Rattle.std.proofs.Common.{◌≡◌}
 use Rattle.ld_graph.proofs.Linked.{got, looks_right}
 use Rattle.ld_graph.proofs.links.Links.looks_at.Goals as goal
 

@@ -1,5 +1,4 @@
 use Rattle.std.proofs.Common.{◌≡◌, ◌∙◌, Some, option_map, ap, sym}
-use Rattle.std.specs.List.{slice_get}
 use Rattle.ld_graph.proofs.Linked.{got, name_right}
 use Rattle.ld_graph.proofs.links.Links.name.Goals as goal
 

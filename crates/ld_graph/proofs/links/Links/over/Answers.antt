@@ -1,7 +1,6 @@
-use Rattle.std.proofs.Common.{◌≡◌, ◌∙◌, ℕ, Some, min, suc, get_or, ap, sym, filter_map, arith}
-use Rattle.ld_graph.specs.Inside.Linking.{found_at, items_of}
-use Rattle.ld_graph.specs.Items.{web_of}
-use Rattle.ld_graph.specs.Web.{over, tallest}
+use Rattle.std.proofs.Common.{◌≡◌, get_or, filter_map, arith}
+use Rattle.ld_graph.specs.Inside.Linking.{found_at}
+use Rattle.ld_graph.specs.Web.{tallest}
 use Rattle.ld_graph.proofs.Linked.{got, over_absent, over_right}
 use Rattle.ld_graph.proofs.links.Links.over.Goals as goal
 

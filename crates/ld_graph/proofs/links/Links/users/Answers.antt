@@ -1,7 +1,6 @@
-use Rattle.std.proofs.Common.{◌≡◌, ◌<◌, ◌∙◌, Some, None, ℕ, length, get_or, ap, sym}
+use Rattle.std.proofs.Common.{◌≡◌, ◌∙◌, Some, None, get_or, ap, sym}
 use Rattle.std.proofs.lemmas.List.Elements.{Contains-get_or}
-use Rattle.std.specs.List.{Contains}
-use Rattle.ld_graph.specs.Inside.Linking.{AreUsers, items_of, node_of}
+use Rattle.ld_graph.specs.Inside.Linking.{node_of}
 use Rattle.ld_graph.proofs.Linked.{no_users, users_right, users_within}
 use Rattle.ld_graph.proofs.links.Links.users.Goals as goal
 

@@ -1,6 +1,5 @@
-use Rattle.std.proofs.Common.{◌≡◌, ◌<◌, ◌++◌, ◌∷◌, [], false, rules, arith}
+use Rattle.std.proofs.Common.{◌≡◌, ◌++◌, ◌∷◌, [], false, rules, arith}
 use Rattle.std.proofs.lemmas.List.{length_push}
-use Rattle.ld_graph.specs.Inside.Marking.{Marked}
 use Rattle.ld_graph.proofs.Marked.{listed_push}
 use Rattle.ld_graph.proofs.marks.Marks.add.Goals as goal
 

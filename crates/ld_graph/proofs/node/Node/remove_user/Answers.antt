@@ -1,4 +1,4 @@
-use Rattle.std.proofs.Common.{◌≡◌, ◌==◌, not, rules}
+use Rattle.std.proofs.Common.{◌==◌, not, rules}
 use Rattle.std.proofs.lemmas.Fn.{filter_same}
 use Rattle.ld_graph.proofs.Written.{kept_exactly}
 use Rattle.ld_graph.proofs.node.Node.remove_user.Goals as goal
