@@ -1,0 +1,29 @@
+-- What workers answer, and what is kept of it.
+use Rattle.std.specs.Prelude.{◌<◌, ◌^◌, List, [], ◌∷◌, length, Option, Some, None, Result, Ok, Err, ⊤}
+use Rattle.std.specs.declared.alloc.AllocError.{AllocError}
+use Rattle.ld_names.specs.declared.file.TextId.{TextId}
+use Rattle.ld_entry.specs.declared.entry.Expansion.{Expansion}
+use Rattle.ld_cache.specs.Kept.{added, Cached}
+
+-- an expansion that fits, or nothing where it doesn't, or want of memory; None before the worker has worked
+abbrev pub Given : Type 0
+Given = Option (Result (Option Expansion) AllocError)
+
+-- an answer kept where it is an expansion and its blocks are free
+abbrev pub kept_by : Cached → TextId → Given → Cached
+kept_by cache text (Some (Ok (Some expansion))) = added cache text expansion
+kept_by cache text answer = cache
+
+-- answers kept one after another
+abbrev pub answers_kept : Cached → List TextId → List Given → Cached
+answers_kept cache (text ∷ texts) (answer ∷ answers) = answers_kept (kept_by cache text answer) texts answers
+answers_kept cache texts answers = cache
+
+-- an expansion has so few entries that they can be counted
+abbrev pub IsFew : Given → Type 0
+IsFew (Some (Ok (Some expansion))) = length expansion.entries < 2 ^ 32
+IsFew answer = ⊤
+
+abbrev pub AreFew : List Given → Type 0
+AreFew [] = ⊤
+AreFew (answer ∷ answers) = IsFew answer × AreFew answers
