@@ -1,12 +1,17 @@
 pub mod Agreed
+pub mod Answered
 pub mod Computed
 pub mod Counted
 pub mod Expanded
+pub mod Filled
 pub mod Gathered
+pub mod Levels
+pub mod Lower
 pub mod Numbered
 pub mod Parsing
 pub mod Passed
 pub mod Rooted
+pub mod Seats
 pub mod Steps
 pub mod Taken
 pub mod Texts

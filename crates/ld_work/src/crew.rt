@@ -1,5 +1,5 @@
 // A cache filled in rounds of texts of one height.
-ghost use Rattle.std.specs.Prelude.{◌≡◌, ◌≤◌, ◌<◌, ◌+◌, ◌×◌, ℕ, OnOk, get_or, length, map, take};
+ghost use Rattle.std.specs.Prelude.{◌≡◌, ◌≤◌, ◌<◌, ◌+◌, ℕ, OnOk, get_or, length, map, take};
 ghost use Rattle.ld_entry.specs.NumberedTexts.{known_texts};
 ghost use Rattle.ld_work.specs.Filling.{filled, reads_all};
 ghost use Rattle.ld_work.specs.Inside.Agreeing.{height_in};

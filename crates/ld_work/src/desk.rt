@@ -1,7 +1,8 @@
 // A worker's reader, its text, and what it answers.
-ghost use Rattle.std.specs.Prelude.{◌≡◌, ◌<◌, ◌×◌, ℕ, None, OnErr, OnOk, length, map, take};
+ghost use Rattle.std.specs.Prelude.{◌≡◌, ◌<◌, None, OnOk, length, map};
+ghost use Rattle.std.specs.Result.{is_err};
 ghost use Rattle.ld_cache.specs.Kept.{kept_of};
-ghost use Rattle.ld_work.specs.Inside.Answering.{AreFew, IsFew, answers_kept, kept_by};
+ghost use Rattle.ld_work.specs.Inside.Answering.{AreFew, AreGiven, IsFew, answers_kept, kept_by, wants_memory};
 ghost use Rattle.ld_work.specs.Inside.Rounds.{readers_of};
 ghost use Rattle.ld_work.specs.Inside.Staleness.{AreApart, AreVacant};
 
@@ -25,8 +26,8 @@ fn keep_answer(cache: &mut Cache, desk: &mut Desk<'_>) -> Result<(), AllocError>
     requires vacant { kept_of cache.old desk.old.text ≡ None }
     requires within { desk.old.text.0 < length cache.old.kept }
     requires few { IsFew desk.old.answer }
-    ensures exactly { OnOk result (cache.new ≡ kept_by cache.old desk.old.text desk.old.answer) }
-    ensures err { OnErr result (cache.new ≡ cache.old) }
+    ensures exactly { cache.new ≡ kept_by cache.old desk.old.text desk.old.answer }
+    ensures memory { is_err result ≡ wants_memory desk.old.answer }
     ensures reader { desk.new.reader ≡ desk.old.reader }
     ensures text { desk.new.text ≡ desk.old.text }
 {
@@ -45,8 +46,8 @@ pub(crate) fn keep_all(cache: &mut Cache, desks: &mut [Desk<'_>]) -> Result<(), 
     requires vacant { AreVacant cache.old (map (λ desk. desk.text) desks.old) }
     requires apart { AreApart (map (λ desk. desk.text) desks.old) }
     requires few { AreFew (map (λ desk. desk.answer) desks.old) }
-    ensures exactly { OnOk result (cache.new ≡ answers_kept cache.old (map (λ desk. desk.text) desks.old) (map (λ desk. desk.answer) desks.old)) }
-    ensures partly { (count : ℕ) × (cache.new ≡ answers_kept cache.old (take count (map (λ desk. desk.text) desks.old)) (map (λ desk. desk.answer) desks.old)) }
+    ensures exactly { cache.new ≡ answers_kept cache.old (map (λ desk. desk.text) desks.old) (map (λ desk. desk.answer) desks.old) }
+    ensures given { OnOk result (AreGiven (map (λ desk. desk.answer) desks.old)) }
     ensures readers { readers_of desks.new ≡ readers_of desks.old }
 {
     for place in 0..desks.len() {

@@ -125,7 +125,7 @@ impl Lent<'_> {
             return Ok(());
         }
         if let Some(file) = reader.file(text) {
-            ranks.insert((height, file.clone()?, text.0))?;
+            ranks.insert((height, file.copy(self.alloc)?, text.0))?;
         }
         Ok(())
     }

@@ -1,5 +1,5 @@
 -- What workers answer, and what is kept of it.
-use Rattle.std.specs.Prelude.{◌<◌, ◌^◌, List, [], ◌∷◌, length, Option, Some, None, Result, Ok, Err, ⊤}
+use Rattle.std.specs.Prelude.{◌≡◌, ◌<◌, ◌^◌, Bool, true, false, if◌then◌else◌, List, [], ◌∷◌, length, Option, Some, None, Result, Ok, Err, ⊤}
 use Rattle.std.specs.declared.alloc.AllocError.{AllocError}
 use Rattle.ld_names.specs.declared.file.TextId.{TextId}
 use Rattle.ld_entry.specs.declared.entry.Expansion.{Expansion}
@@ -14,10 +14,19 @@ abbrev pub kept_by : Cached → TextId → Given → Cached
 kept_by cache text (Some (Ok (Some expansion))) = added cache text expansion
 kept_by cache text answer = cache
 
--- answers kept one after another
+abbrev pub wants_memory : Given → Bool
+wants_memory (Some (Err error)) = true
+wants_memory answer = false
+
+-- answers kept one after another, up to the first that wants memory
 abbrev pub answers_kept : Cached → List TextId → List Given → Cached
-answers_kept cache (text ∷ texts) (answer ∷ answers) = answers_kept (kept_by cache text answer) texts answers
+answers_kept cache (text ∷ texts) (answer ∷ answers) = if wants_memory answer then cache else answers_kept (kept_by cache text answer) texts answers
 answers_kept cache texts answers = cache
+
+-- no answer wants memory
+abbrev pub AreGiven : List Given → Type 0
+AreGiven [] = ⊤
+AreGiven (answer ∷ answers) = (wants_memory answer ≡ false) × AreGiven answers
 
 -- an expansion has so few entries that they can be counted
 abbrev pub IsFew : Given → Type 0
