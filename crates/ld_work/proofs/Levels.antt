@@ -77,3 +77,12 @@ level-at f n [] (suc k) within each = tt
 level-at f n (text ∷ texts) zero within each = tt
 level-at f n (text ∷ texts) (suc k) within each =
     (each zero text (omega arith), level-at f n texts k (omega arith) (λ i d below. each (suc i) d (omega arith)))
+
+head-same : (f : TextId → ℕ) (texts : List TextId) (d e : TextId) → 0 < length texts → f (get_or texts 0 d) ≡ f (get_or texts 0 e)
+head-same f [] d e some = absurd (omega arith)
+head-same f (text ∷ texts) d e some = refl
+
+-- texts as high as the first
+pub level-of : (f : TextId → ℕ) (texts : List TextId) (k : ℕ) (d : TextId) (level : ℕ) → 0 < length texts → k ≤ length texts → level ≡ f (get_or texts 0 d) → ((i : ℕ) (e : TextId) → i < k → f (get_or texts i e) ≡ level) → AreAt f (f (get_or texts 0 (record { 0 = 0 }))) (take k texts)
+level-of f texts k d level some within is each =
+    level-at f (f (get_or texts 0 (record { 0 = 0 }))) texts k within (λ i e below. each i e below ∙ is ∙ head-same f texts d (record { 0 = 0 }) some)

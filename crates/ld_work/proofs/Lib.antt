@@ -2,6 +2,7 @@ pub mod Agreed
 pub mod Answered
 pub mod Computed
 pub mod Counted
+pub mod Crewed
 pub mod Expanded
 pub mod Filled
 pub mod Gathered

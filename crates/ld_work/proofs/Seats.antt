@@ -1,5 +1,5 @@
 -- Desks that get their texts, and answers that are kept in order.
-use Rattle.std.proofs.Common.{◌≡◌, ◌≢◌, ◌≤◌, ◌<◌, ◌+◌, ◌-◌, ◌^◌, ℕ, zero, suc, cond, false, List, [], ◌∷◌, ◌++◌, length, get_or, set, map, take, drop, Option, Some, None, Result, Ok, Err, refl, ap, sym, ◌∙◌, subst, arith}
+use Rattle.std.proofs.Common.{◌≡◌, ◌≢◌, ◌≤◌, ◌<◌, ◌+◌, ◌-◌, ◌^◌, ℕ, zero, suc, cond, true, false, List, [], ◌∷◌, ◌++◌, length, get_or, set, map, take, drop, Option, Some, None, Result, Ok, Err, refl, ap, sym, ◌∙◌, subst, arith}
 use Rattle.std.proofs.lemmas.List.{length-map}
 use Rattle.ld_names.specs.declared.file.TextId.{TextId}
 use Rattle.ld_cache.specs.Kept.{Cached, kept_of}
@@ -130,19 +130,84 @@ at-desk cache texts i d within vacant apart =
     let apart' : AreApart (get_or texts i d ∷ drop (suc i) texts) = subst AreApart is apart in
     record { vacant = vacant'.0; within = vacant'.1; other = apart'.0; apart = apart'.1; left = vacant'.2 }
 
--- what is left behind one answer more
-pub record IsLeft (cache : Cached) (texts : List TextId) (n : ℕ) : Type 0 where
-  pub vacant : AreVacant cache (drop n texts)
-  pub apart : AreApart (drop n texts)
-
-pub left-behind : (cache : Cached) (texts : List TextId) (answer : Given) (i n : ℕ) (d : TextId) → n ≡ suc i → IsAtDesk cache texts i d → IsLeft (kept_by cache (get_or texts i d) answer) texts n
-left-behind cache texts answer i n d next at =
-    subst (λ m. IsLeft (kept_by cache (get_or texts i d) answer) texts m) (sym next)
-        (record { vacant = still-vacant cache (get_or texts i d) answer (drop (suc i) texts) at.other at.left; apart = at.apart })
-
 -- an answer that stands behind those kept is the one of before
 pub same-at : {X Y : Type 0} (f : X → Y) (before xs : List X) (i : ℕ) (d : X) (e : Y) → i < length xs → length xs ≡ length before → drop i (map f xs) ≡ drop i (map f before) → f (get_or xs i d) ≡ get_or (map f before) i e
 same-at f [] xs i d e within long same = absurd (omega arith)
 same-at f (y ∷ before) [] i d e within long same = absurd (omega arith)
 same-at f (y ∷ before) (x ∷ xs) zero d e within long same = first-same (f x) (f y) (map f xs) (map f before) same
 same-at f (y ∷ before) (x ∷ xs) (suc i) d e within long same = same-at f before xs i d e (omega arith) (omega arith) same
+
+-- ---- The desk at a place, while answers are kept.
+
+pub wants-kept : (cache : Cached) (text : TextId) (answer : Given) → wants_memory answer ≡ true → kept_by cache text answer ≡ cache
+wants-kept cache text (Some (Ok (Some expansion))) wants = cc
+wants-kept cache text (Some (Ok None)) wants = refl
+wants-kept cache text (Some (Err error)) wants = refl
+wants-kept cache text None wants = refl
+
+module _ {X : Type 0} (text : X → TextId) (answer : X → Given) (before xs : List X) (cache : Cached) (i : ℕ) (d : X) where
+  abbrev texts : List TextId
+  texts = map text before
+
+  abbrev answers : List Given
+  answers = map answer before
+
+  abbrev here : X
+  here = get_or xs i d
+
+  pub record IsDeskAt : Type 0 where
+    pub vacant : kept_of cache (text here) ≡ None
+    pub within : (text here).0 < length cache.kept
+    pub few : IsFew (answer here)
+    pub goes : answers_kept cache (drop i texts) (drop i answers) ≡ cond (wants_memory (answer here)) cache (answers_kept (kept_by cache (text here) (answer here)) (drop (suc i) texts) (drop (suc i) answers))
+    pub same_answer : answer here ≡ get_or answers i (answer d)
+    pub other : AreOther (text here) (drop (suc i) texts)
+    pub apart : AreApart (drop (suc i) texts)
+    pub left : AreVacant cache (drop (suc i) texts)
+
+  pub desk-at : i < length xs → length xs ≡ length before → map text xs ≡ map text before → drop i (map answer xs) ≡ drop i answers → AreVacant cache (drop i texts) → AreApart (drop i texts) → AreFew answers → IsDeskAt
+  desk-at within long same_texts rest vacant apart few =
+      let same : text here ≡ get_or texts i (text d) = get-map text xs before i d (text d) within same_texts in
+      let same' : answer here ≡ get_or answers i (answer d) = same-at answer before xs i d (answer d) within long rest in
+      let long_texts = length-map before text in
+      let long_answers = length-map before answer in
+      let at = at-desk cache texts i (text d) (omega arith) vacant apart in
+      record {
+        vacant = ap (kept_of cache) same ∙ at.vacant;
+        within = subst (λ (t : TextId). t.0 < length cache.kept) (sym same) at.within;
+        few = subst IsFew (sym same') (few-at answers i (answer d) (omega arith) few);
+        goes = answers-from cache texts answers i (text d) (answer d) (omega arith) (omega arith)
+            ∙ ap (λ a. cond (wants_memory a) cache (answers_kept (kept_by cache (get_or texts i (text d)) a) (drop (suc i) texts) (drop (suc i) answers))) (sym same')
+            ∙ ap (λ t. cond (wants_memory (answer here)) cache (answers_kept (kept_by cache t (answer here)) (drop (suc i) texts) (drop (suc i) answers))) (sym same);
+        same_answer = same';
+        other = subst (λ t. AreOther t (drop (suc i) texts)) (sym same) at.other;
+        apart = at.apart;
+        left = at.left;
+      }
+
+  -- an answer that wants memory ends the keeping
+  pub stops : (new total : Cached) → IsDeskAt → new ≡ kept_by cache (text here) (answer here) → wants_memory (answer here) ≡ true → answers_kept cache (drop i texts) (drop i answers) ≡ total → new ≡ total
+  stops new total at is wants goes =
+      is ∙ wants-kept cache (text here) (answer here) wants
+      ∙ sym (at.goes ∙ ap (λ b. cond b cache (answers_kept (kept_by cache (text here) (answer here)) (drop (suc i) texts) (drop (suc i) answers))) wants)
+      ∙ goes
+
+  pub record GoesOn (new total : Cached) (n : ℕ) : Type 0 where
+    pub goes : answers_kept new (drop n texts) (drop n answers) ≡ total
+    pub given : AreGiven (drop n answers) → AreGiven answers
+    pub vacant : AreVacant new (drop n texts)
+    pub apart : AreApart (drop n texts)
+
+  -- another is kept, and the keeping goes on
+  pub goes-on : (new total : Cached) (n : ℕ) → n ≡ suc i → i < length before → IsDeskAt → new ≡ kept_by cache (text here) (answer here) → wants_memory (answer here) ≡ false → answers_kept cache (drop i texts) (drop i answers) ≡ total → (AreGiven (drop i answers) → AreGiven answers) → GoesOn new total n
+  goes-on new total n next within at is given goes all =
+      let long_answers = length-map before answer in
+      subst (GoesOn new total) (sym next)
+          (record {
+            goes = ap (λ c. answers_kept c (drop (suc i) texts) (drop (suc i) answers)) is
+                ∙ sym (at.goes ∙ ap (λ b. cond b cache (answers_kept (kept_by cache (text here) (answer here)) (drop (suc i) texts) (drop (suc i) answers))) given)
+                ∙ goes;
+            given = λ rest. all (given-from answers i (suc i) (answer d) refl (omega arith) (sym (ap wants_memory at.same_answer) ∙ given) rest);
+            vacant = subst (λ c. AreVacant c (drop (suc i) texts)) (sym is) (still-vacant cache (text here) (answer here) (drop (suc i) texts) at.other at.left);
+            apart = at.apart;
+          })
