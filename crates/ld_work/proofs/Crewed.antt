@@ -7,13 +7,16 @@ use Rattle.std.proofs.lemmas.List.Sums.{sum_by-append, sum_by-cons}
 use Rattle.ld_names.specs.Standing.{Known}
 use Rattle.ld_names.specs.declared.file.TextId.{TextId}
 use Rattle.ld_texts.specs.Learning.{Texts}
+use Rattle.ld_cache.specs.Kept.{Cached}
 use Rattle.ld_graph.specs.Reading.{Reading}
+use Rattle.ld_graph.specs.Seen.{Graph}
 use Rattle.ld_work.specs.Filling.{reads_all}
 use Rattle.ld_work.specs.Inside.Answering.{Given}
-use Rattle.ld_work.specs.Inside.Lent.{basis_at, CanFill, MayWork}
+use Rattle.ld_work.specs.Inside.Lent.{basis_at, CanFill}
 use Rattle.ld_work.specs.Inside.Rounds.{AreAnswers, IsAnswer, IsDone, known_at, readers_of, room_of}
 use Rattle.ld_work.specs.Readers.{AreOver, KeepTexts, known_by, reads_together}
 use Rattle.ld_work.specs.Reads.{reads}
+use Rattle.ld_work.specs.declared.bounds.Bounds.{Bounds}
 use Rattle.ld_work.specs.declared.desk.Desk.{Desk}
 use Rattle.ld_work.specs.declared.lent.Lent.{Lent}
 
@@ -34,6 +37,12 @@ map-map : {X Y Z : Type 0} (f : X → Y) (g : Y → Z) (xs : List X) → map g (
 map-map f g [] = refl
 map-map f g (x ∷ xs) = ap (λ rest. g (f x) ∷ rest) (map-map f g xs)
 
+-- all may work where those who know this may
+pub may-all : (known : Known) (graph : Graph) (bounds : Bounds) (cache : Cached) (desks : List Desk) → CanFill known graph bounds cache → AreOver known (readers_of desks) → (k : ℕ) (d : Desk) → k < length desks → CanFill (get_or desks k d).reader.texts.known graph bounds cache
+may-all known graph bounds cache [] can over k d within = absurd (omega arith)
+may-all known graph bounds cache (desk ∷ desks) can over zero d within = subst (λ k. CanFill k graph bounds cache) (sym (over zero desk.reader (omega arith))) can
+may-all known graph bounds cache (desk ∷ desks) can over (suc k) d within = may-all known graph bounds cache desks can (λ j e below. over (suc j) e (omega arith)) k d (omega arith)
+
 module _ (lent : Lent) where
   abbrev AreDone : List Desk → List Desk → Type 0
   AreDone olds news = (i : ℕ) (d : Desk) → i < length olds → IsDone lent (get_or olds i d) (get_or news i d)
@@ -51,11 +60,6 @@ module _ (lent : Lent) where
     -- each reads what is known
     abbrev AllOver : List Desk → Type 0
     AllOver desks = AreOver known (readers_of desks)
-
-    pub may-all : (desks : List Desk) → MayWork lent known → AllOver desks → All (λ (desk : Desk). MayWork lent desk.reader.texts.known) desks
-    may-all [] may over k d within = absurd (omega arith)
-    may-all (desk ∷ desks) may over zero d within = subst (MayWork lent) (sym (over zero desk.reader (omega arith))) may
-    may-all (desk ∷ desks) may over (suc k) d within = may-all desks may (λ j e below. over (suc j) e (omega arith)) k d (omega arith)
 
     pub done-answers : (olds news : List Desk) → length news ≡ length olds → AreDone olds news → AllOver olds → AreAnswers (basis_at known lent.bounds lent.cache.now) (room_of lent.cache.now) (map (λ desk. desk.text) olds) (map (λ desk. desk.answer) news)
     done-answers [] [] long done over = tt
