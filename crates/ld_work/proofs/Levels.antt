@@ -11,8 +11,9 @@ use Rattle.ld_work.specs.Inside.Lent.{basis_at}
 use Rattle.ld_work.specs.Inside.Rounds.{AreAt}
 use Rattle.ld_work.specs.Inside.Staleness.{AreApart, AreFrom, AreOrdered, AreOther, AreStale, AreVacant, height_of}
 use Rattle.ld_work.specs.Reads.{Basis, reads}
+use Rattle.ld_work.specs.Right.{AreRight}
 use Rattle.ld_work.specs.declared.bounds.Bounds.{Bounds}
-use Rattle.ld_work.proofs.Filled.{filled-below, reads-append}
+use Rattle.ld_work.proofs.Filled.{filled-append, filled-below, reads-append, right-front, stale-behind}
 use Rattle.ld_work.proofs.Lower.{reads-same}
 
 -- ---- The front of stale texts is stale.
@@ -40,6 +41,36 @@ front-ordered f depth (text ∷ front) more all = (all.0, front-from f (f text) 
 pub stale-front : (known : Known) (depth : ℕ) (cache : Cached) (front more : List TextId) → AreStale known depth cache (front ++ more) → AreStale known depth cache front
 stale-front known depth cache front more all =
     record { ordered = front-ordered (height_of known depth) depth front more all.ordered; vacant = front-vacant cache front more all.vacant; apart = front-apart front more all.apart }
+
+-- ---- Parts of lists.
+
+-- the first of the front are the first of all
+part-of : {X : Type 0} (front more : List X) (n : ℕ) → (m : ℕ) × (take n front ≡ take m (front ++ more))
+part-of [] more zero = (0, refl)
+part-of [] more (suc n) = (0, refl)
+part-of (x ∷ front) more zero = (0, refl)
+part-of (x ∷ front) more (suc n) = let rest = part-of front more n in (suc rest.0, ap (λ xs. x ∷ xs) rest.1)
+
+take-behind : {X : Type 0} (xs : List X) (a b n : ℕ) → n ≡ a + b → take a xs ++ take b (drop a xs) ≡ take n xs
+take-behind xs zero b n is = let same : b ≡ n = omega arith in ap (λ m. take m xs) same
+take-behind [] (suc a) zero zero is = refl
+take-behind [] (suc a) zero (suc n) is = refl
+take-behind [] (suc a) (suc b) zero is = refl
+take-behind [] (suc a) (suc b) (suc n) is = refl
+take-behind (x ∷ xs) (suc a) b zero is = absurd (omega arith)
+take-behind (x ∷ xs) (suc a) b (suc n) is = ap (λ rest. x ∷ rest) (take-behind xs a b n (omega arith))
+
+drop-from : {X : Type 0} (xs : List X) (a b n : ℕ) → n ≡ a + b → drop b (drop a xs) ≡ drop n xs
+drop-from xs zero b n is = let same : b ≡ n = omega arith in ap (λ m. drop m xs) same
+drop-from [] (suc a) zero zero is = refl
+drop-from [] (suc a) zero (suc n) is = refl
+drop-from [] (suc a) (suc b) zero is = refl
+drop-from [] (suc a) (suc b) (suc n) is = refl
+drop-from (x ∷ xs) (suc a) b zero is = absurd (omega arith)
+drop-from (x ∷ xs) (suc a) b (suc n) is = drop-from xs a b n (omega arith)
+
+pub drop-behind : {X : Type 0} (xs : List X) (a b : ℕ) → drop b (drop a xs) ≡ drop (a + b) xs
+drop-behind xs a b = drop-from xs a b (a + b) refl
 
 -- ---- Texts of one height read in a round what they would read over the cache as it is afterwards.
 
@@ -70,6 +101,37 @@ module _ (lower : LowerLaw) (known : Known) (bounds : Bounds) where
       let same = reads-front n cache front more at stale in
       let parts = reads-append (basis_at known bounds (filled (known_texts known) bounds cache (front ++ more))) front more in
       omega arith
+
+  -- what holds behind a round
+  pub record IsStep (new final : Cached) (more : List TextId) (reads total : ℕ) : Type 0 where
+    pub right : AreRight (known_texts known) bounds new
+    pub stale : AreStale known bounds.depth new more
+    pub exactly : filled (known_texts known) bounds new more ≡ final
+    pub few : reads + reads_all (basis_at known bounds final) more ≤ total
+
+  pub round-step : (n : ℕ) (cache new final : Cached) (rest front more : List TextId) (before after total : ℕ) → rest ≡ front ++ more → AreAt h n front → new ≡ filled (known_texts known) bounds cache front → AreRight (known_texts known) bounds cache → AreStale known bounds.depth cache rest → filled (known_texts known) bounds cache rest ≡ final → after ≤ before + reads_all (basis_at known bounds cache) front → before + reads_all (basis_at known bounds final) rest ≤ total → IsStep new final more after total
+  round-step n cache new final rest front more before after total is at keeps right stale fills reads all =
+      let stale' : AreStale known bounds.depth cache (front ++ more) = subst (AreStale known bounds.depth cache) is stale in
+      let final-is : filled (known_texts known) bounds cache (front ++ more) ≡ final = ap (filled (known_texts known) bounds cache) (sym is) ∙ fills in
+      let all' : before + reads_all (basis_at known bounds (filled (known_texts known) bounds cache (front ++ more))) (front ++ more) ≤ total = subst (λ f. before + reads_all (basis_at known bounds f) (front ++ more) ≤ total) (sym final-is) (subst (λ texts. before + reads_all (basis_at known bounds final) texts ≤ total) is all) in
+      record {
+        right = subst (AreRight (known_texts known) bounds) (sym keeps) (right-front known bounds cache front more right stale');
+        stale = subst (λ c. AreStale known bounds.depth c more) (sym keeps) (stale-behind known bounds cache front more stale');
+        exactly = ap (λ c. filled (known_texts known) bounds c more) keeps ∙ sym (filled-append known bounds cache front more) ∙ final-is;
+        few = subst (λ f. after + reads_all (basis_at known bounds f) more ≤ total) final-is (round-reads n cache front more before after total at stale' reads all');
+      }
+
+  -- texts that are filled in two parts
+  pub filled-parts : (first cache new : Cached) (texts rest front more : List TextId) (count some : ℕ) → cache ≡ filled (known_texts known) bounds first (take count texts) → rest ≡ drop count texts → rest ≡ front ++ more → new ≡ filled (known_texts known) bounds cache (take some front) → (n : ℕ) × (new ≡ filled (known_texts known) bounds first (take n texts))
+  filled-parts first cache new texts rest front more count some was left is fills =
+      let part = part-of front more some in
+      let here : take some front ≡ take part.0 (drop count texts) = part.1 ∙ ap (take part.0) (sym is ∙ left) in
+      (count + part.0, fills ∙ ap (λ c. filled (known_texts known) bounds c (take some front)) was ∙ sym (filled-append known bounds first (take count texts) (take some front)) ∙ ap (filled (known_texts known) bounds first) (ap (λ ts. take count texts ++ ts) here ∙ take-behind texts count part.0 (count + part.0) refl))
+
+  pub filled-on : (first cache new : Cached) (texts front : List TextId) (done count : ℕ) → cache ≡ filled (known_texts known) bounds first (take done texts) → front ≡ take count (drop done texts) → new ≡ filled (known_texts known) bounds cache front → new ≡ filled (known_texts known) bounds first (take (done + count) texts)
+  filled-on first cache new texts front done count was is fills =
+      fills ∙ ap (λ c. filled (known_texts known) bounds c front) was ∙ sym (filled-append known bounds first (take done texts) front)
+      ∙ ap (filled (known_texts known) bounds first) (ap (λ ts. take done texts ++ ts) is ∙ take-behind texts done count (done + count) refl)
 
 pub level-at : (f : TextId → ℕ) (n : ℕ) (texts : List TextId) (k : ℕ) → k ≤ length texts → ((i : ℕ) (d : TextId) → i < k → f (get_or texts i d) ≡ n) → AreAt f n (take k texts)
 level-at f n [] zero within each = tt

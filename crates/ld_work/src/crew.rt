@@ -12,9 +12,11 @@ use crate::bounds::Bounds;
 use crate::desk::{Desk, keep_all};
 use crate::gate::Gate;
 use crate::lent::Lent;
-use ld_cache::Cache;
+use ld_cache::{Cache, graph_law};
+use ld_entry::lower_law;
 use ld_graph::Graph;
 use ld_names::TextId;
+use ld_texts::number_law;
 use std::alloc::{AllocError, Global};
 use std::thread::Threads;
 
@@ -46,6 +48,9 @@ impl<R: Threads + Sync, G: Gate + Sync> Crew<'_, R, G> {
         ensures exactly { OnOk result (cache.new ≡ filled (known_texts (known_at desks.old)) self.now.bounds cache.old stale.now) }
         ensures reads { OnOk result (reads_together (readers_of desks.new) ≤ reads_together (readers_of desks.old) + reads_all (basis_at (known_at desks.old) self.now.bounds cache.new) stale.now) }
     {
+        number_law();
+        lower_law();
+        graph_law();
         let mut rest = stale;
         while !rest.is_empty() {
             let count = round_size(self.graph, rest, desks.len());

@@ -1,6 +1,7 @@
 -- What is lent to each worker.
 use Rattle.std.specs.Prelude.{◌≡◌}
 use Rattle.ld_names.specs.Standing.{Known}
+use Rattle.ld_texts.specs.Known.{AreDistinct}
 use Rattle.ld_entry.specs.NumberedTexts.{known_texts}
 use Rattle.ld_cache.specs.Kept.{Cached}
 use Rattle.ld_graph.specs.Agreeing.{items_of_known}
@@ -17,6 +18,7 @@ pub record CanFill (known : Known) (graph : Graph) (bounds : Bounds) (cache : Ca
   pub depth : graph.depth ≡ bounds.depth
   pub within : AreBounds bounds
   pub right : AreRight (known_texts known) bounds cache
+  pub distinct : AreDistinct known
 
 abbrev pub MayWork : Lent → Known → Type 0
 MayWork lent known = CanFill known lent.graph.now lent.bounds lent.cache.now
