@@ -6,6 +6,7 @@ pub mod Crewed
 pub mod Expanded
 pub mod Filled
 pub mod Gathered
+pub mod Learnt
 pub mod Levels
 pub mod Lower
 pub mod Numbered
@@ -16,4 +17,5 @@ pub mod Seats
 pub mod Steps
 pub mod Taken
 pub mod Texts
+pub mod Turned
 pub mod Within
