@@ -1,6 +1,6 @@
 -- What a graph that agrees with texts says of them.
 use Rattle.std.proofs.Common.{◌≡◌, ◌≤◌, ℕ, suc, max, List, [], ◌∷◌, map, Option, Some, refl, ap, sym, ◌∙◌, arith}
-use Rattle.std.specs.Prelude.{unwrap_or, None}
+use Rattle.std.specs.Prelude.{unwrap_or, IsSome, None}
 use Rattle.ld_names.specs.declared.file.TextId.{TextId}
 use Rattle.ld_names.specs.Standing.{Known, known_map}
 use Rattle.ld_line.specs.Reading.{line_of}
@@ -54,21 +54,30 @@ some-height : (texts : NumberedTexts) (bound : ℕ) (text : TextId) → 1 ≤ he
 unfolding height_by_lines
 some-height texts bound text = omega arith
 
-module _ (laws : GraphsAgree) (numbers : NumbersAgree) (known : Known) (distinct : AreDistinct known) (graph : Graph) (depth : ℕ) (items : graph.items ≡ items_of_known known) (deep : graph.depth ≡ depth) where
+module _ (laws : GraphsAgree) (known : Known) (distinct : AreDistinct known) (graph : Graph) (depth : ℕ) (items : graph.items ≡ items_of_known known) (deep : graph.depth ≡ depth) where
   in-graph : (text : TextId) → height_in graph text ≡ height (known_web known) (suc depth) text.0
   in-graph text = ap (λ is. height (web_of is) (suc graph.depth) text.0) items ∙ ap (λ d. height (known_web known) (suc d) text.0) deep
 
+  -- the height of a text that is there
+  pub there-height : (text : TextId) → IsSome (lines_at known text.0) → height_in graph text ≡ height_of known depth text
+  there-height text there = by (lines_at known text.0) refl there
+    where
+      by : (standing : Option (List (List ℕ))) → lines_at known text.0 ≡ standing → IsSome standing → height_in graph text ≡ height_of known depth text
+      by None is there = cc
+      by (Some lines) is there = in-graph text ∙ (laws.heights known distinct).present (suc depth) text lines is
+
+module _ (laws : GraphsAgree) (numbers : NumbersAgree) (known : Known) (distinct : AreDistinct known) (graph : Graph) (depth : ℕ) (items : graph.items ≡ items_of_known known) (deep : graph.depth ≡ depth) where
   -- an absent text has height 0 in a graph, and 1 by its lines
   by-lines : (text : TextId) → height_of known depth text ≡ max 1 (height_in graph text)
   by-lines text = by (lines_at known text.0) refl
     where
       by : (standing : Option (List (List ℕ))) → lines_at known text.0 ≡ standing → height_of known depth text ≡ max 1 (height_in graph text)
       by (Some lines) is =
-          let same = in-graph text ∙ (laws.heights known distinct).present (suc depth) text lines is in
+          let same = in-graph laws known distinct graph depth items deep text ∙ (laws.heights known distinct).present (suc depth) text lines is in
           let some = some-height (known_texts known) depth text in
           omega arith
       by None is =
-          let low = in-graph text ∙ (laws.heights known distinct).absent (suc depth) text is in
+          let low = in-graph laws known distinct graph depth items deep text ∙ (laws.heights known distinct).absent (suc depth) text is in
           let one = no-lines (known_texts known) depth text (lines-seen numbers known distinct text.0 ∙ ap (λ lines. map line_of (lines_in lines)) is) in
           omega arith
 

@@ -102,7 +102,7 @@ module _ (known : Known) (bounds : Bounds) where
         some None is = cc
         some (Some file) is = (file, refl)
         by : (standing : Option (List (List ℕ))) → lines_at known root.0 ≡ standing → IsSome standing → (file : FileId) × (file_at known root.0 ≡ Some file)
-        by None is present = absurd present
+        by None is present = cc
         by (Some lines) is present = some (file_at known root.0) (numbers.there known root.0 ∙ lt-ltb root.0 (length known) (numbers.present known root.0 lines is))
 
     closed : IsClosed (is_among (reached known root)) known

@@ -10,8 +10,11 @@ pub mod Learnt
 pub mod Levels
 pub mod Lower
 pub mod Numbered
+pub mod Ordered
 pub mod Parsing
 pub mod Passed
+pub mod Ranks
+pub mod Reaching
 pub mod Rooted
 pub mod Seats
 pub mod Steps

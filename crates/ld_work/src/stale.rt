@@ -12,9 +12,8 @@ use crate::lent::Lent;
 use crate::seen::found;
 use indexmap::IndexSet;
 use ld_cache::graph_law;
-use ld_entry::{found_law, reached_law};
 use ld_graph::{Reader, items_law};
-use ld_names::{FileId, TextId, file_laws};
+use ld_names::{FileId, TextId, file_laws, lookup_law};
 use ld_texts::number_law;
 use std::alloc::{AllocError, Global};
 use std::collections::BTreeSet;
@@ -36,6 +35,8 @@ impl Lent<'_> {
         file_laws();
         let reached = self.reached(reader, root)?;
         let ranks = self.ranked(reader, &reached)?;
+        // The ranks ascend.
+        let _ = ranks.len();
         texts_in_order(self.alloc, ranks)
     }
 
@@ -72,7 +73,7 @@ impl Lent<'_> {
     {
         items_law();
         number_law();
-        found_law();
+        lookup_law();
         for index in 0..reader.len(text).unwrap_or(0) {
             let Some(name) = self.graph.name(text, index) else {
                 return Ok(());
@@ -97,9 +98,10 @@ impl Lent<'_> {
     {
         let mut ranks = BTreeSet::new(self.alloc);
         for place in 0..texts.len() {
-            if let Some(text) = texts.get_index(place).copied() {
-                self.rank(reader, TextId(text), &mut ranks)?;
-            }
+            let Some(text) = texts.get_index(place).copied() else {
+                return Ok(ranks);
+            };
+            self.rank(reader, TextId(text), &mut ranks)?;
         }
         Ok(ranks)
     }
