@@ -64,7 +64,9 @@ pub fn fill<R: Threads + Sync, G: Gate + Sync>(
         cache: &*cache,
         bounds,
     };
-    let stale = lent.stale(&readers[0], root)?;
+    let first = &readers[0];
+    let _ = first.known();
+    let stale = lent.stale(first, root)?;
     let mut desks = Vec::with_capacity(alloc, readers.len())?;
     sit_down(readers, &mut desks);
     let crew = Crew {
