@@ -1,12 +1,15 @@
 -- Readers the other way round.
-use Rattle.std.proofs.Common.{◌≡◌, ◌<◌, ◌+◌, ℕ, zero, suc, List, [], ◌∷◌, ◌++◌, length, get_or, map, reverse, All, refl, ap, sym, ◌∙◌, subst, arith}
+use Rattle.std.proofs.Common.{◌≡◌, ◌≤◌, ◌<◌, ◌+◌, ℕ, take, drop, zero, suc, List, [], ◌∷◌, ◌++◌, length, get_or, map, reverse, All, refl, ap, sym, ◌∙◌, subst, arith}
 use Rattle.std.specs.List.{sum_by}
-use Rattle.std.proofs.lemmas.List.{length-reverse, map-append, reverse-append, reverse-reverse}
+use Rattle.std.proofs.lemmas.List.{length-map, length-reverse, map-append, reverse-append, reverse-reverse, take-append-le}
 use Rattle.std.proofs.lemmas.List.Elements.{All-append}
 use Rattle.std.proofs.lemmas.List.Sums.{sum_by-append, sum_by-cons}
 use Rattle.ld_names.specs.Standing.{Known}
 use Rattle.ld_graph.specs.Reading.{Reading}
+use Rattle.ld_work.specs.Inside.Rounds.{readers_of}
 use Rattle.ld_work.specs.Readers.{AreOver, KeepTexts, known_by, reads_together}
+use Rattle.ld_work.specs.declared.desk.Desk.{Desk}
+use Rattle.ld_work.proofs.Seats.{all-taken}
 
 behind : {X : Type 0} (x : X) (xs : List X) → reverse (x ∷ xs) ≡ reverse xs ++ x ∷ []
 behind x xs = reverse-append (x ∷ []) xs
@@ -24,7 +27,7 @@ sum-reverse f (x ∷ xs) =
     omega (arith, sum_by-cons f x xs, sum_by-cons f x [])
 
 all-reverse : {X : Type 0} (P : X → Type 0) (xs : List X) → All P xs → All P (reverse xs)
-all-reverse P [] all k d within = absurd (omega arith)
+all-reverse P [] all = λ k d within. absurd (omega arith)
 all-reverse P (x ∷ xs) all =
     let one : All P (x ∷ []) = λ k d within. one-at k d within in
     subst (All P) (sym (behind x xs)) (All-append P (reverse xs) (x ∷ []) (all-reverse P xs (λ k d within. all (suc k) d (omega arith))) one)
@@ -62,3 +65,13 @@ turned-keep old before after new is keep back =
 
 pub turned-reads : (readers other : List Reading) → reverse other ≡ readers → reads_together readers ≡ reads_together other
 turned-reads readers other is = ap reads_together (sym is) ∙ sum-reverse (λ reader. reader.reads) other
+
+keep-long : (desks new : List Desk) → KeepTexts (readers_of desks) (readers_of new) → length new ≡ length desks
+keep-long desks new keep =
+    sym (length-map new (λ desk. desk.reader)) ∙ sym (length-map (readers_of new) (λ reader. reader.texts)) ∙ ap length keep ∙ length-map (readers_of desks) (λ reader. reader.texts) ∙ length-map desks (λ desk. desk.reader)
+
+-- desks that were lent as a slice, and are back
+pub lent-back : (desks new items : List Desk) (n : ℕ) → length desks ≡ n → KeepTexts (readers_of desks) (readers_of new) → take n (new ++ drop (length new) items) ≡ new
+lent-back desks new items n long keep =
+    let same = keep-long desks new keep in
+    take-append-le n new (drop (length new) items) (omega arith) ∙ all-taken new n (omega arith)
