@@ -1,20 +1,18 @@
 -- What is kept of the answers of a round is what a filling keeps.
-use Rattle.std.proofs.Common.{◌≡◌, ◌≤◌, ◌<◌, ◌+◌, ◌-◌, ◌*◌, ◌/◌, ◌^◌, ℕ, zero, suc, Bool, true, false, cond, List, [], ◌∷◌, length, take, min, Option, Some, None, Result, Ok, Err, refl, ap, sym, ◌∙◌, subst, arith}
-use Rattle.std.specs.Prelude.{nat_lt}
-use Rattle.std.specs.List.{sum_by}
+use Rattle.std.proofs.Common.{◌≡◌, ◌≤◌, ◌<◌, ℕ, suc, Bool, true, false, cond, List, [], ◌∷◌, length, take, Some, None, Ok, Err, refl, ap, sym, ◌∙◌, arith}
 use Rattle.std.proofs.lemmas.Bool.{lt-ltb}
 use Rattle.ld_names.specs.Standing.{Known}
 use Rattle.ld_names.specs.declared.file.TextId.{TextId}
 use Rattle.ld_pool.specs.Runs.{blocks_for}
 use Rattle.ld_entry.specs.NumberedTexts.{known_texts}
 use Rattle.ld_entry.specs.declared.entry.Expansion.{Expansion}
-use Rattle.ld_cache.specs.Kept.{added, blocks_in, Cached, free_blocks, kept_of, with_kept}
+use Rattle.ld_cache.specs.Kept.{added, Cached, free_blocks, with_kept}
 use Rattle.ld_work.specs.Bounds.{AreBounds}
 use Rattle.ld_work.specs.Filling.{by_itself, filled}
 use Rattle.ld_work.specs.Inside.Answering.{AreFew, AreGiven, Given, IsFew, answers_kept, kept_by, wants_memory}
 use Rattle.ld_work.specs.Inside.Lent.{basis_at}
 use Rattle.ld_work.specs.Inside.Rounds.{AreAnswers, IsAnswer, room_of}
-use Rattle.ld_work.specs.Inside.Staleness.{AreOther, AreStale, AreVacant}
+use Rattle.ld_work.specs.Inside.Staleness.{AreStale}
 use Rattle.ld_work.specs.declared.bounds.Bounds.{Bounds}
 use Rattle.ld_work.proofs.Filled.{added-free, entries-few, stale-more}
 

@@ -1,17 +1,14 @@
 -- What the workers of a round leave, and rounds of some of them.
-use Rattle.std.proofs.Common.{◌≡◌, ◌≤◌, ◌<◌, ◌+◌, ◌^◌, ℕ, zero, suc, List, [], ◌∷◌, ◌++◌, length, get_or, map, take, drop, All, Option, Some, None, Result, Ok, Err, refl, ap, sym, ◌∙◌, subst, arith}
+use Rattle.std.proofs.Common.{◌≡◌, ◌≤◌, ◌<◌, ◌+◌, ℕ, zero, suc, List, [], ◌∷◌, ◌++◌, length, get_or, map, take, drop, Result, Ok, Err, refl, ap, sym, ◌∙◌, subst, arith}
 use Rattle.std.specs.Prelude.{OnOk}
-use Rattle.std.specs.List.{sum_by}
-use Rattle.std.proofs.lemmas.List.{take-append-drop, length-map}
+use Rattle.std.proofs.lemmas.List.{take-append-drop}
 use Rattle.std.proofs.lemmas.List.Sums.{sum_by-append, sum_by-cons}
 use Rattle.ld_names.specs.Standing.{Known}
-use Rattle.ld_names.specs.declared.file.TextId.{TextId}
 use Rattle.ld_texts.specs.Learning.{Texts}
 use Rattle.ld_cache.specs.Kept.{Cached}
 use Rattle.ld_graph.specs.Reading.{Reading}
 use Rattle.ld_graph.specs.Seen.{Graph}
 use Rattle.ld_work.specs.Filling.{reads_all}
-use Rattle.ld_work.specs.Inside.Answering.{Given}
 use Rattle.ld_work.specs.Inside.Lent.{basis_at, CanFill}
 use Rattle.ld_work.specs.Inside.Rounds.{AreAnswers, IsAnswer, IsDone, known_at, readers_of, room_of}
 use Rattle.ld_work.specs.Readers.{AreOver, KeepTexts, known_by, reads_together}
@@ -65,9 +62,10 @@ module _ (lent : Lent) where
     done-answers [] [] long done over = tt
     done-answers [] (new ∷ news) long done over = absurd (omega arith)
     done-answers (old ∷ olds) [] long done over = absurd (omega arith)
-    done-answers (old ∷ olds) (new ∷ news) long done over =
-        (subst (λ k. IsAnswer (basis_at k lent.bounds lent.cache.now) (room_of lent.cache.now) old.text new.answer) (over zero old.reader (omega arith)) (done zero old (omega arith)).answer,
-            done-answers olds news (omega arith) (λ i d within. done (suc i) d (omega arith)) (λ j e below. over (suc j) e (omega arith)))
+    done-answers (old ∷ olds) (new ∷ news) long done over = (
+      subst (λ k. IsAnswer (basis_at k lent.bounds lent.cache.now) (room_of lent.cache.now) old.text new.answer) (over zero old.reader (omega arith)) (done zero old (omega arith)).answer,
+      done-answers olds news (omega arith) (λ i d within. done (suc i) d (omega arith)) (λ j e below. over (suc j) e (omega arith)),
+    )
 
     pub done-reads : (olds news : List Desk) → length news ≡ length olds → AreDone olds news → AllOver olds → reads_together (readers_of news) ≤ reads_together (readers_of olds) + reads_all (basis_at known lent.bounds lent.cache.now) (map (λ desk. desk.text) olds)
     done-reads [] [] long done over = omega arith

@@ -1,9 +1,9 @@
 -- One text more in a filling.
-use Rattle.std.proofs.Common.{◌≡◌, ◌≢◌, ◌≤◌, ◌<◌, ◌+◌, ◌-◌, ◌^◌, ◌⊎◌, ℕ, zero, suc, Bool, true, false, cond, List, [], ◌∷◌, ◌++◌, length, get_or, set, take, min, Option, Some, None, inl, inr, ⊎_elim, refl, ap, sym, ◌∙◌, subst, arith}
+use Rattle.std.proofs.Common.{◌≡◌, ◌≢◌, ◌≤◌, ◌<◌, ◌+◌, ◌⊎◌, ℕ, zero, suc, Bool, true, false, cond, List, [], ◌∷◌, ◌++◌, length, get_or, set, Option, Some, None, inl, inr, ⊎_elim, refl, ap, sym, ◌∙◌, subst, arith}
 use Rattle.std.specs.Prelude.{nat_lt}
 use Rattle.std.specs.List.{sum_by}
 use Rattle.std.proofs.lemmas.Bool.{cases_eq}
-use Rattle.std.proofs.lemmas.List.{get_or-set_other, get_or-set_same, length-set, length-take}
+use Rattle.std.proofs.lemmas.List.{get_or-set_other, length-set, length-take}
 use Rattle.std.proofs.lemmas.List.Sums.{sum_by-cons}
 use Rattle.ld_names.specs.declared.file.TextId.{TextId}
 use Rattle.ld_names.specs.Standing.{Known}
@@ -16,8 +16,8 @@ use Rattle.ld_entry.specs.Outcomes.{all_by_line, concatenation, context_of}
 use Rattle.ld_entry.specs.declared.entry.Expansion.{Expansion}
 use Rattle.ld_cache.specs.Kept.{added, blocks_in, Cached, free_blocks, kept_of, with_kept}
 use Rattle.ld_work.specs.Filling.{by_itself, filled, reads_all}
-use Rattle.ld_work.specs.Inside.Staleness.{AreApart, AreFrom, AreOrdered, AreOther, AreStale, AreVacant, height_of}
-use Rattle.ld_work.specs.Reads.{Basis, reads}
+use Rattle.ld_work.specs.Inside.Staleness.{AreFrom, AreOther, AreStale, AreVacant, height_of}
+use Rattle.ld_work.specs.Reads.{Basis}
 use Rattle.ld_work.specs.Right.{AreRight, IsRight}
 use Rattle.ld_work.specs.declared.bounds.Bounds.{Bounds}
 
@@ -57,11 +57,12 @@ added-cases cache text other expansion given = by (nat_lt (free_blocks cache) (b
     short [] i kept = cc
     short (x ∷ xs) zero kept = cc
     short (x ∷ xs) (suc i) kept = short xs i kept
+
     by : (b : Bool) → kept_of (cond b cache (with_kept cache text expansion)) other ≡ Some given → ((other ≡ text) × (given ≡ expansion)) ⊎ (kept_of cache other ≡ Some given)
     by true kept = inr kept
     by false kept =
         ⊎_elim (λ (same : other.0 ≡ text.0). inl (same-text other text same, short cache.kept text.0 (ap (λ n. get_or (set cache.kept text.0 (Some expansion)) n None) (sym same) ∙ kept)))
-            (λ (apart : other.0 ≢ text.0). inr (sym (get_or-set_other cache.kept text.0 other.0 (Some expansion) None apart) ∙ kept)) (cases_eq other.0 text.0)
+        (λ (apart : other.0 ≢ text.0). inr (sym (get_or-set_other cache.kept text.0 other.0 (Some expansion) None apart) ∙ kept)) (cases_eq other.0 text.0)
 
 sum-set : {X : Type 0} (f : Option X → ℕ) (xs : List (Option X)) (i : ℕ) (x : X) → f None ≡ 0 → get_or xs i None ≡ None → sum_by f xs ≤ sum_by f (set xs i (Some x))
 sum-set f [] i x none vacant = omega arith

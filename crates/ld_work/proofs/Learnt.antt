@@ -1,6 +1,6 @@
 -- All that a stale text reaches is known.
-use Rattle.std.proofs.Common.{◌≡◌, ◌≤◌, ◌<◌, ◌+◌, ◌⊎◌, ◌||◌, inl, inr, ⊎_elim, ℕ, zero, suc, Bool, true, false, cond, List, [], ◌∷◌, ◌++◌, length, map, take, drop, Option, Some, None, refl, ap, sym, ◌∙◌, subst, arith}
-use Rattle.std.specs.Prelude.{nat_eq, nat_lt, IfSome, IsSome, ⊤}
+use Rattle.std.proofs.Common.{◌≡◌, ◌⊎◌, ◌||◌, inl, inr, ⊎_elim, ℕ, zero, suc, Bool, true, false, cond, List, [], ◌∷◌, ◌++◌, length, map, take, drop, Option, Some, None, refl, ap, sym, ◌∙◌, subst, arith}
+use Rattle.std.specs.Prelude.{nat_eq, IfSome, IsSome, ⊤}
 use Rattle.std.specs.BTreeSet.{insert_key}
 use Rattle.std.specs.List.{list_any}
 use Rattle.std.specs.Option.{is_some}
@@ -23,7 +23,7 @@ use Rattle.ld_cache.specs.Kept.{added, Cached, kept_of}
 use Rattle.ld_work.specs.Filling.{by_itself, filled, is_stale, Rank, ranked, ranked_text, rank_cmp, rank_of, reached, reached_by, stale, texts_in, with_rank, with_stale}
 use Rattle.ld_work.specs.Inside.Staleness.{AreStale}
 use Rattle.ld_work.specs.Readers.{IsLearntRoot}
-use Rattle.ld_work.specs.Right.{AreKept, AreRight, ReachesKnown}
+use Rattle.ld_work.specs.Right.{AreKept}
 use Rattle.ld_work.specs.declared.bounds.Bounds.{Bounds}
 use Rattle.ld_work.proofs.Filled.{added-cases, right-front}
 
@@ -70,7 +70,7 @@ module _ (all : List ℕ) where
     ranked-among before [] ranks is are = are
     ranked-among before (text ∷ texts) ranks is are =
         ranked-among (before ++ text ∷ []) texts (with_stale known depth cache ranks (record { 0 = text })) (append_assoc before (text ∷ []) texts ∙ is)
-            (stale-among ranks (record { 0 = text }) are (subst (λ xs. is_among xs (record { 0 = text }) ≡ true) is (among-behind before texts text)))
+        (stale-among ranks (record { 0 = text }) are (subst (λ xs. is_among xs (record { 0 = text }) ≡ true) is (among-behind before texts text)))
 
 all-among : (known : Known) (depth : ℕ) (cache : Cached) (root : TextId) → AreAmong (reached known root) (stale known depth cache root)
 unfolding stale
@@ -101,6 +101,7 @@ module _ (known : Known) (bounds : Bounds) where
         some : (o : Option FileId) → is_some o ≡ true → (file : FileId) × (o ≡ Some file)
         some None is = cc
         some (Some file) is = (file, refl)
+
         by : (standing : Option (List (List ℕ))) → lines_at known root.0 ≡ standing → IsSome standing → (file : FileId) × (file_at known root.0 ≡ Some file)
         by None is present = cc
         by (Some lines) is present = some (file_at known root.0) (numbers.there known root.0 ∙ lt-ltb root.0 (length known) (numbers.present known root.0 lines is))
@@ -118,8 +119,8 @@ module _ (known : Known) (bounds : Bounds) where
         let texts = stale known bounds.depth cache root in
         let all : AreStale known bounds.depth cache (take count texts ++ drop count texts) = subst (AreStale known bounds.depth cache) (sym (take-append-drop count texts)) are in
         subst (AreKept known bounds) (sym is)
-            (record {
-              right = right-front known bounds cache (take count texts) (drop count texts) kept.right all;
-              learnt = λ text given at. ⊎_elim (λ (among : is_among (reached known root) text ≡ true). (is_among (reached known root), among, closed)) (λ (before : kept_of cache text ≡ Some given). kept.learnt text given before)
-                  (kept-cases cache (reached known root) (take count texts) text given (front-among (reached known root) texts count (all-among known bounds.depth cache root)) at);
-            })
+        (record {
+          right = right-front known bounds cache (take count texts) (drop count texts) kept.right all;
+          learnt = λ text given at. ⊎_elim (λ (among : is_among (reached known root) text ≡ true). (is_among (reached known root), among, closed)) (λ (before : kept_of cache text ≡ Some given). kept.learnt text given before)
+              (kept-cases cache (reached known root) (take count texts) text given (front-among (reached known root) texts count (all-among known bounds.depth cache root)) at);
+        })

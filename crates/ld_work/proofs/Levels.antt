@@ -1,5 +1,5 @@
 -- A round more in a filling.
-use Rattle.std.proofs.Common.{◌≡◌, ◌≢◌, ◌≤◌, ◌<◌, ◌+◌, ◌-◌, ℕ, zero, suc, List, [], ◌∷◌, ◌++◌, length, get_or, take, drop, refl, ap, sym, ◌∙◌, subst, arith}
+use Rattle.std.proofs.Common.{◌≡◌, ◌≤◌, ◌<◌, ◌+◌, ℕ, zero, suc, List, [], ◌∷◌, ◌++◌, length, get_or, take, drop, refl, ap, sym, ◌∙◌, subst, arith}
 use Rattle.ld_names.specs.declared.file.TextId.{TextId}
 use Rattle.ld_names.specs.Standing.{Known}
 use Rattle.ld_entry.specs.Answers.{left_below}
@@ -10,7 +10,7 @@ use Rattle.ld_work.specs.Filling.{filled, reads_all}
 use Rattle.ld_work.specs.Inside.Lent.{basis_at}
 use Rattle.ld_work.specs.Inside.Rounds.{AreAt}
 use Rattle.ld_work.specs.Inside.Staleness.{AreApart, AreFrom, AreOrdered, AreOther, AreStale, AreVacant, height_of}
-use Rattle.ld_work.specs.Reads.{Basis, reads}
+use Rattle.ld_work.specs.Reads.{reads}
 use Rattle.ld_work.specs.Right.{AreRight}
 use Rattle.ld_work.specs.declared.bounds.Bounds.{Bounds}
 use Rattle.ld_work.proofs.Filled.{filled-append, filled-below, reads-append, right-front, stale-behind}

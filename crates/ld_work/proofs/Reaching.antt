@@ -1,5 +1,5 @@
 -- What a root reaches by the names that the graph lists is what it reaches by its lines.
-use Rattle.std.proofs.Common.{◌≡◌, ◌≤◌, ◌<◌, ◌+◌, ◌-◌, ◌++◌, ◌==◌, ℕ, zero, suc, true, false, cond, Bool, List, [], ◌∷◌, length, drop, Option, Some, None, refl, ap, sym, ◌∙◌, subst, arith}
+use Rattle.std.proofs.Common.{◌≡◌, ◌≤◌, ◌<◌, ◌-◌, ◌++◌, ◌==◌, ℕ, zero, suc, true, false, cond, Bool, List, [], ◌∷◌, length, drop, Option, Some, None, refl, ap, sym, ◌∙◌, subst, arith}
 use Rattle.std.specs.Prelude.{option_and_then, option_map, slice_get, IfSome, IsSome}
 use Rattle.std.specs.List.{cons_option, list_any}
 use Rattle.std.specs.Option.{is_some, unwrap_or}
@@ -14,7 +14,7 @@ use Rattle.ld_line.specs.declared.line.Line.{Line}
 use Rattle.ld_line.specs.declared.line.Line.TheVariants.{Ref}
 use Rattle.ld_texts.specs.Known.{AreDistinct, file_at, id_of, lines_at}
 use Rattle.ld_texts.specs.Laws.{NumbersAgree}
-use Rattle.ld_texts.specs.Reach.{file_reaches, going_on, line_reaches, lines_in, lines_reach, reach, Reached, reached_by as name_reached, Reaches, texts_reach, Wants, wanted, wanted_in, with_found, with_reached}
+use Rattle.ld_texts.specs.Reach.{file_reaches, going_on, line_reaches, lines_reach, reach, Reached, reached_by as name_reached, Reaches, texts_reach, Wants, wanted, wanted_in, with_found, with_reached}
 use Rattle.ld_entry.specs.NumberedTexts.{found_from, known_files, known_texts, text_id_of}
 use Rattle.ld_graph.specs.Agreeing.{items_of_known, names_among}
 use Rattle.ld_graph.specs.AgreeingLaws.{ItemsAgree}
@@ -58,6 +58,7 @@ module _ (known : Known) (text : TextId) (file : FileId) (at : file_at known tex
       numbered : (number : Option ℕ) → going_on further (with_found texts number) ≡ Reaches all → further (with_text texts (option_map (λ n. record { 0 = n }) number)) ≡ Reaches all
       numbered None goes' = goes'
       numbered (Some n) goes' = goes'
+
       by : (found : Found) → find (known_map known) file.folder name ≡ found → going_on further (name_reached known texts name found) ≡ Reaches all → further (with_text texts (finds name)) ≡ Reaches all
       by (Present other) is goes' =
           ap (λ o. further (with_text texts o)) (found-is name ∙ ap (text_id_of (known_files known)) is ∙ number-of known other) ∙ numbered (id_of known other) goes'
@@ -96,7 +97,7 @@ module _ (known : Known) where
   reach-step left place texts all text at there goes =
       let file = some-file text there in
       let goes' : going_on (texts_reach left known (suc place)) (file_reaches known texts (file_at known text) (lines_at known text)) ≡ Reaches all =
-          sym (ap (λ o. elim o [ None ↦ Reaches texts | Some id ↦ going_on (texts_reach left known (suc place)) (file_reaches known texts (file_at known id) (lines_at known id)) ]) at) ∙ goes in
+      sym (ap (λ o. elim o [ None ↦ Reaches texts | Some id ↦ going_on (texts_reach left known (suc place)) (file_reaches known texts (file_at known id) (lines_at known id)) ]) at) ∙ goes in
       file-reaches known (record { 0 = text }) file.0 file.1 (texts_reach left known (suc place)) all texts (sym (ap (λ o. going_on (texts_reach left known (suc place)) (file_reaches known texts o (lines_at known text))) file.1) ∙ goes')
 
   reaches-same : (texts all : List ℕ) → Reaches texts ≡ Reaches all → texts ≡ all
@@ -127,6 +128,7 @@ module _ (known : Known) where
       settled : (r : Reached) → wanted_in r ≡ None → r ≡ Reaches (texts_in r)
       settled (Wants file) none = cc
       settled (Reaches texts) none = refl
+
       by : (standing : Option (List (List ℕ))) → lines_at known root.0 ≡ standing → IsSome standing → is_some (file_at known root.0) ≡ true
       by None is there = cc
       by (Some lines) is there = numbers.there known root.0 ∙ lt-ltb root.0 (length known) (numbers.present known root.0 lines is)
@@ -158,6 +160,7 @@ module _ (numbers : NumbersAgree) (finds_law : FindsExactly) (known : Known) (te
       some : (lines : List (List ℕ)) (standing : Option (List (List ℕ))) → Some (Some lines) ≡ Some standing → IsSome standing
       some lines None same = cc
       some lines (Some other_lines) same = refl
+
       by : (number : Option ℕ) → id_of known target ≡ number → IsThere (known_map known) target → IsSome (lines_at known other.0)
       by None none there = let no : Some (Some there.0) ≡ None = sym there.1 ∙ numbers.map known target ∙ ap (option_map (lines_at known)) none in cc
       by (Some n) at there =

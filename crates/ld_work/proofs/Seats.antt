@@ -1,5 +1,5 @@
 -- Desks that get their texts, and answers that are kept in order.
-use Rattle.std.proofs.Common.{◌≡◌, ◌≢◌, ◌≤◌, ◌<◌, ◌+◌, ◌-◌, ◌^◌, ℕ, zero, suc, cond, true, false, List, [], ◌∷◌, ◌++◌, length, get_or, set, map, take, drop, Option, Some, None, Result, Ok, Err, refl, ap, sym, ◌∙◌, subst, arith}
+use Rattle.std.proofs.Common.{◌≡◌, ◌≢◌, ◌≤◌, ◌<◌, ℕ, zero, suc, cond, true, false, List, [], ◌∷◌, length, get_or, set, map, take, drop, Some, None, Ok, Err, refl, ap, sym, ◌∙◌, subst, arith}
 use Rattle.std.proofs.lemmas.List.{length-map}
 use Rattle.ld_names.specs.declared.file.TextId.{TextId}
 use Rattle.ld_cache.specs.Kept.{Cached, kept_of}
@@ -203,11 +203,11 @@ module _ {X : Type 0} (text : X → TextId) (answer : X → Given) (before xs : 
   goes-on new total n next within at is given goes all =
       let long_answers = length-map before answer in
       subst (GoesOn new total) (sym next)
-          (record {
-            goes = ap (λ c. answers_kept c (drop (suc i) texts) (drop (suc i) answers)) is
-                ∙ sym (at.goes ∙ ap (λ b. cond b cache (answers_kept (kept_by cache (text here) (answer here)) (drop (suc i) texts) (drop (suc i) answers))) given)
-                ∙ goes;
-            given = λ rest. all (given-from answers i (suc i) (answer d) refl (omega arith) (sym (ap wants_memory at.same_answer) ∙ given) rest);
-            vacant = subst (λ c. AreVacant c (drop (suc i) texts)) (sym is) (still-vacant cache (text here) (answer here) (drop (suc i) texts) at.other at.left);
-            apart = at.apart;
-          })
+      (record {
+        goes = ap (λ c. answers_kept c (drop (suc i) texts) (drop (suc i) answers)) is
+            ∙ sym (at.goes ∙ ap (λ b. cond b cache (answers_kept (kept_by cache (text here) (answer here)) (drop (suc i) texts) (drop (suc i) answers))) given)
+            ∙ goes;
+        given = λ rest. all (given-from answers i (suc i) (answer d) refl (omega arith) (sym (ap wants_memory at.same_answer) ∙ given) rest);
+        vacant = subst (λ c. AreVacant c (drop (suc i) texts)) (sym is) (still-vacant cache (text here) (answer here) (drop (suc i) texts) at.other at.left);
+        apart = at.apart;
+      })

@@ -1,5 +1,5 @@
 -- Readers the other way round.
-use Rattle.std.proofs.Common.{◌≡◌, ◌≤◌, ◌<◌, ◌+◌, ℕ, take, drop, zero, suc, List, [], ◌∷◌, ◌++◌, length, get_or, map, reverse, All, refl, ap, sym, ◌∙◌, subst, arith}
+use Rattle.std.proofs.Common.{◌≡◌, ◌<◌, ℕ, take, drop, zero, suc, List, [], ◌∷◌, ◌++◌, length, get_or, map, reverse, All, refl, ap, sym, ◌∙◌, subst, arith}
 use Rattle.std.specs.List.{sum_by}
 use Rattle.std.proofs.lemmas.List.{length-map, length-reverse, map-append, reverse-append, reverse-reverse, take-append-le}
 use Rattle.std.proofs.lemmas.List.Elements.{All-append}

@@ -52,9 +52,12 @@ impl Lent<'_> {
     {
         let threads = desks.len();
         let lent = *self;
-        thread::for_each_mut(rt, desks, threads, &|index, desk: &mut Desk<'_>| {
-            lent.work_at(gate, index, desk)
-        });
+        thread::for_each_mut(
+            rt,
+            desks,
+            threads,
+            &|index, desk: &mut Desk<'_>| { lent.work_at(gate, index, desk) },
+        );
     }
 
     // One worker after another.

@@ -20,11 +20,7 @@ use std::collections::BTreeSet;
 
 impl Lent<'_> {
     // The stale texts that a root reaches, in the order of filling.
-    pub(crate) fn stale(
-        &self,
-        reader: &Reader<'_>,
-        root: TextId,
-    ) -> Result<Vec<TextId>, AllocError>
+    pub(crate) fn stale(&self, reader: &Reader<'_>, root: TextId) -> Result<Vec<TextId>, AllocError>
         requires may { MayWork self.now reader.now.texts.known }
         requires learnt { IsLearntRoot reader.now.texts.known root }
         requires room { length reader.now.texts.known ≤ length self.now.cache.now.kept }

@@ -1,5 +1,5 @@
 -- A round: workers that expand a text each.
-use Rattle.std.specs.Prelude.{◌≡◌, ◌≤◌, ◌+◌, ◌*◌, ◌-◌, ◌^◌, ℕ, List, [], ◌∷◌, map, min, Option, Some, None, Result, Ok, Err, ⊤}
+use Rattle.std.specs.Prelude.{◌≡◌, ◌≤◌, ◌+◌, ◌*◌, ◌-◌, ◌^◌, ℕ, List, [], ◌∷◌, map, min, Some, None, Ok, Err, ⊤}
 use Rattle.ld_names.specs.Standing.{Known}
 use Rattle.ld_names.specs.declared.file.TextId.{TextId}
 use Rattle.ld_cache.specs.Kept.{Cached, free_blocks}

@@ -1,4 +1,3 @@
-use Rattle.std.proofs.Common.{◌≡◌, get_or, sym, ◌∙◌, arith}
 use Rattle.ld_work.specs.Inside.Agreeing.{height_in}
 use Rattle.ld_work.proofs.Levels.{level-of}
 use Rattle.ld_work.proofs.crew.round_size.Goals as goal

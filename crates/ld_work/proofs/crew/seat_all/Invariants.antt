@@ -1,4 +1,4 @@
-use Rattle.std.proofs.Common.{◌≡◌, map, take, length}
+use Rattle.std.proofs.Common.{◌≡◌, map, take}
 use Rattle.ld_work.specs.Inside.Rounds.{readers_of}
 use Rattle.ld_work.proofs.crew.seat_all.Given as goal
 

@@ -1,7 +1,7 @@
-use Rattle.std.proofs.Common.{◌≡◌, ◌<◌, ◌+◌, false, true, length, get_or, map, refl, ap, sym, ◌∙◌, arith}
+use Rattle.std.proofs.Common.{◌≡◌, ◌<◌, ◌+◌, false, true, length, get_or, map, sym, arith}
 use Rattle.ld_work.specs.Inside.Answering.{answers_kept, wants_memory}
 use Rattle.ld_work.specs.declared.desk.Desk.{Desk}
-use Rattle.ld_work.proofs.Seats.{behind-kept, desk-at, goes-on, IsDeskAt, set-kept, stops}
+use Rattle.ld_work.proofs.Seats.{behind-kept, desk-at, goes-on, set-kept, stops}
 use Rattle.ld_work.proofs.desk.keep_all.Goals as goal
 
 pub keep_answer-requires-clause-vacant : goal.keep_answer-requires-clause-vacant

@@ -1,4 +1,4 @@
-use Rattle.std.proofs.Common.{◌≡◌, ◌+◌, length, map, drop}
+use Rattle.std.proofs.Common.{◌≡◌, map, drop}
 use Rattle.ld_work.specs.Inside.Answering.{AreGiven, answers_kept}
 use Rattle.ld_work.specs.Inside.Rounds.{readers_of}
 use Rattle.ld_work.specs.Inside.Staleness.{AreApart, AreVacant}

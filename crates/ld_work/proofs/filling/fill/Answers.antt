@@ -1,14 +1,13 @@
-use Rattle.std.proofs.Common.{◌≡◌, ◌≤◌, ◌<◌, ◌+◌, ℕ, List, length, reverse, take, ap, sym, ◌∙◌, subst, arith, rules}
-use Rattle.std.specs.Prelude.{OnOk}
+use Rattle.std.proofs.Common.{◌≡◌, length, reverse, take, ap, sym, ◌∙◌, subst, arith, rules}
 use Rattle.ld_texts.specs.Known.{AreDistinct}
 use Rattle.ld_graph.specs.Agreeing.{items_of_known}
 use Rattle.ld_entry.specs.NumberedTexts.{known_texts}
 use Rattle.ld_cache.specs.Kept.{Cached}
 use Rattle.ld_work.specs.Filling.{filled, reads_all, stale}
 use Rattle.ld_work.specs.Inside.Lent.{basis_at, CanFill}
-use Rattle.ld_work.specs.Inside.Rounds.{known_at, readers_of}
+use Rattle.ld_work.specs.Inside.Rounds.{readers_of}
 use Rattle.ld_work.specs.Inside.Staleness.{AreStale}
-use Rattle.ld_work.specs.Readers.{known_by, reads_together}
+use Rattle.ld_work.specs.Readers.{known_by}
 use Rattle.ld_work.specs.Right.{AreRight}
 use Rattle.ld_work.proofs.Crewed.{on-ok}
 use Rattle.ld_work.proofs.Filled.{filled-blocks, filled-length}

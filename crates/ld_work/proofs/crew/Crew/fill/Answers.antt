@@ -1,6 +1,4 @@
-use Rattle.std.proofs.Common.{◌≡◌, ◌≤◌, ◌+◌, ◌++◌, max, List, length, take, drop, get_or, ap, sym, ◌∙◌, subst, arith}
-use Rattle.ld_names.specs.declared.file.TextId.{TextId}
-use Rattle.ld_cache.specs.Kept.{Cached}
+use Rattle.std.proofs.Common.{◌≡◌, ◌≤◌, ◌+◌, ◌++◌, max, take, drop, get_or, ap, sym, ◌∙◌, subst}
 use Rattle.ld_entry.specs.NumberedTexts.{known_texts}
 use Rattle.ld_work.specs.Filling.{filled, reads_all}
 use Rattle.ld_work.specs.Inside.Agreeing.{height_in}

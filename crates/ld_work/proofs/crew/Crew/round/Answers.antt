@@ -1,7 +1,5 @@
-use Rattle.std.proofs.Common.{◌≡◌, ◌≤◌, ◌+◌, ℕ, List, map, take, ap, sym, ◌∙◌, subst, arith}
-use Rattle.ld_names.specs.declared.file.TextId.{TextId}
-use Rattle.ld_entry.specs.NumberedTexts.{known_texts}
-use Rattle.ld_work.specs.Filling.{filled, reads_all}
+use Rattle.std.proofs.Common.{◌≡◌, map, ap, sym, ◌∙◌, subst, arith}
+use Rattle.ld_work.specs.Filling.{reads_all}
 use Rattle.ld_work.specs.Inside.Answering.{answers_kept}
 use Rattle.ld_work.specs.Inside.Lent.{basis_at}
 use Rattle.ld_work.specs.Inside.Rounds.{AreAnswers, known_at, readers_of, room_of}

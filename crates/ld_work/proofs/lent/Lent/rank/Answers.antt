@@ -1,6 +1,5 @@
-use Rattle.std.proofs.Common.{◌≡◌, ◌≤◌, ℕ, false, Some, sym, ◌∙◌, ap, subst, arith, rules}
+use Rattle.std.proofs.Common.{◌≡◌, ◌≤◌, false, Some, sym, ◌∙◌, subst, arith, rules}
 use Rattle.std.specs.Option.{is_some}
-use Rattle.ld_names.specs.declared.file.FileId.{FileId}
 use Rattle.ld_texts.specs.Known.{file_at}
 use Rattle.ld_cache.specs.Kept.{kept_of}
 use Rattle.ld_work.specs.Inside.Staleness.{AreRanked, height_of, IsRanked}

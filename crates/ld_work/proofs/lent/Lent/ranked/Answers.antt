@@ -1,4 +1,4 @@
-use Rattle.std.proofs.Common.{◌≡◌, ◌+◌, sym, ◌∙◌, arith}
+use Rattle.std.proofs.Common.{◌+◌, sym, ◌∙◌, arith}
 use Rattle.ld_work.proofs.Ranks.{present-at, ranked-next}
 use Rattle.ld_work.proofs.lent.Lent.ranked.Goals as goal
 

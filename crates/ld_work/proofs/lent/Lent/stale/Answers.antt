@@ -1,8 +1,6 @@
-use Rattle.std.proofs.Common.{◌≡◌, ℕ, List, [], map, Ok, ap, sym, ◌∙◌, subst, arith, rules}
-use Rattle.std.specs.Prelude.{IfOk}
+use Rattle.std.proofs.Common.{ap, sym, ◌∙◌, subst}
 use Rattle.std.specs.Ordering.{nat_cmp, ordering_then}
-use Rattle.ld_names.specs.declared.file.TextId.{TextId}
-use Rattle.ld_work.specs.Filling.{Rank, ranked, ranked_text, reached, stale}
+use Rattle.ld_work.specs.Filling.{Rank}
 use Rattle.ld_work.specs.Inside.Staleness.{AreStale}
 use Rattle.ld_work.proofs.Ordered.{are-stale}
 use Rattle.ld_work.proofs.Ranks.{if-ok, stale-is}
